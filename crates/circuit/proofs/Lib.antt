@@ -1,0 +1,4 @@
+pub mod Joined
+pub mod LentLaws
+pub mod Signals
+pub mod Tables

@@ -1,0 +1,5 @@
+pub mod Gate
+pub mod Circuit
+pub mod Lent
+pub mod Whole
+pub mod Refused
