@@ -13,6 +13,10 @@ gate-count gates = length gates / 7
 abbrev pub register-count : List ℕ → ℕ
 register-count registers = length registers / 3
 
+-- how many signals gates and registers are
+abbrev pub signal-count : List ℕ → List ℕ → ℕ
+signal-count gates registers = register-count registers + gate-count gates
+
 -- a gate's inputs, its table, least and greatest delay of the first input, least and greatest of the second
 abbrev pub gate-in : List ℕ → ℕ → Gate
 gate-in xs k = record { one = getD xs (7 * k) 0; two = getD xs (7 * k + 1) 0; table = getD xs (7 * k + 2) 0; least-one = getD xs (7 * k + 3) 0; greatest-one = getD xs (7 * k + 4) 0; least-two = getD xs (7 * k + 5) 0; greatest-two = getD xs (7 * k + 6) 0 }

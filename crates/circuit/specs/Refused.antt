@@ -6,7 +6,7 @@ use Prim.Native.Nat.{ℕ, _+_, _%_, _≤_, _<_}
 use lib.ListN.{length}
 use Rattle.std.specs.declared.option.Option.{Option}
 use Rattle.std.specs.declared.option.Option.the-variants.{Some, None}
-use Rattle.circuit.specs.Lent.{gate-count, register-count}
+use Rattle.circuit.specs.Lent.{gate-count, register-count, signal-count}
 use Rattle.circuit.specs.Whole.{Whole, Shaped, Some-registers, Few-gates, Small, Placed, Ranged, Tied, Output-ordered}
 use Rattle.circuit.specs.declared.refusal.Refusal.{Refusal}
 use Rattle.circuit.specs.declared.refusal.Refusal.the-variants.{GateNumbers, RegisterNumbers, TimeNumbers, RegisterCount, GateCount, TooLarge, BadGate, BadDelay, BadRegister, BadOutput, NoRoom}
@@ -50,7 +50,7 @@ module _ (gates registers times : List ℕ) where
   Applies (TooLarge p) = Small gates registers times p → ⊥
   Applies (BadGate k) = (k < gate-count gates) × (Placed (register-count registers) gates k → ⊥)
   Applies (BadDelay k) = (k < gate-count gates) × (Ranged gates k → ⊥)
-  Applies (BadRegister r) = (r < register-count registers) × (Tied (register-count registers + gate-count gates) registers r → ⊥)
+  Applies (BadRegister r) = (r < register-count registers) × (Tied (signal-count gates registers) registers r → ⊥)
   Applies BadOutput = Output-ordered times → ⊥
   Applies (NoRoom n) = ⊥
 
@@ -76,7 +76,7 @@ pub record Met-up-to (gates registers times : List ℕ) (n : ℕ) : Type 0 where
   pub small : 3 ≤ n → (p : ℕ) → Small gates registers times p
   pub placed : 4 ≤ n → (k : ℕ) → k < gate-count gates → Placed (register-count registers) gates k
   pub ranged : 5 ≤ n → (k : ℕ) → k < gate-count gates → Ranged gates k
-  pub tied : 6 ≤ n → (r : ℕ) → r < register-count registers → Tied (register-count registers + gate-count gates) registers r
+  pub tied : 6 ≤ n → (r : ℕ) → r < register-count registers → Tied (signal-count gates registers) registers r
   pub ordered : 7 ≤ n → Output-ordered times
 
 -- what is turned away is not whole, and the first reason is one and the same

@@ -4,7 +4,7 @@ use mathlib.Core.List.{List, _++_}
 use Prim.Native.Nat.{ℕ, _+_, _%_, _≤_, _<_}
 use lib.ListN.{length, getD}
 use Rattle.circuit.specs.Gate.{Gate}
-use Rattle.circuit.specs.Lent.{gate-count, register-count, gate-in, takes, early, late, output-early, output-late}
+use Rattle.circuit.specs.Lent.{gate-count, register-count, signal-count, gate-in, takes, early, late, output-early, output-late}
 
 -- seven numbers for each gate, three for each register, five for all
 abbrev pub Shaped : (gates registers times : List ℕ) → Type 0
@@ -46,5 +46,5 @@ pub record Whole (gates registers times : List ℕ) : Type 0 where
   pub small : (p : ℕ) → Small gates registers times p
   pub placed : (k : ℕ) → k < gate-count gates → Placed (register-count registers) gates k
   pub ranged : (k : ℕ) → k < gate-count gates → Ranged gates k
-  pub tied : (r : ℕ) → r < register-count registers → Tied (register-count registers + gate-count gates) registers r
+  pub tied : (r : ℕ) → r < register-count registers → Tied (signal-count gates registers) registers r
   pub ordered : Output-ordered times

@@ -1,7 +1,7 @@
 // A clocked circuit that was looked at and is whole.
 ghost use denote.Ref.{now};
 ghost use Prim.Native.Nat.{ℕ, _+_, _<_};
-ghost use Rattle.circuit.specs.Lent.{gate-count, register-count};
+ghost use Rattle.circuit.specs.Lent.{gate-count, register-count, signal-count};
 ghost use Rattle.circuit.specs.Whole.{Shaped, Some-registers, Few-gates, Small, Placed, Ranged, Tied, Output-ordered};
 
 // The numbers as lent, and that they are a circuit. A value is made only where this is known, so code that has one
@@ -17,6 +17,6 @@ pub struct Circuit<'a> {
     ghost small: { (p : ℕ) → Small (now gates) (now registers) (now times) p },
     ghost placed: { (k : ℕ) → k < gate-count (now gates) → Placed (register-count (now registers)) (now gates) k },
     ghost ranged: { (k : ℕ) → k < gate-count (now gates) → Ranged (now gates) k },
-    ghost tied: { (r : ℕ) → r < register-count (now registers) → Tied (register-count (now registers) + gate-count (now gates)) (now registers) r },
+    ghost tied: { (r : ℕ) → r < register-count (now registers) → Tied (signal-count (now gates) (now registers)) (now registers) r },
     ghost ordered: { Output-ordered (now times) },
 }

@@ -1,0 +1,4 @@
+pub mod Cycling
+pub mod Filling
+pub mod IdealLaws
+pub mod Settling
