@@ -1,0 +1,3 @@
+pub mod Front
+pub mod Numbers
+pub mod Words
