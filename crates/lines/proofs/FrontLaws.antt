@@ -1,4 +1,4 @@
--- A number read in one pass. Assumes nothing.
+-- A number read in one pass.
 use mathlib.Core.Path.{_≡_, refl, sym, ap, subst, _∙_}
 use mathlib.Core.Bool.{true, false, not}
 use mathlib.Core.List.{List, [], _∷_}

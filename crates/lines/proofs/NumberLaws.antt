@@ -1,4 +1,4 @@
--- Laws of `number`. Assumes nothing.
+-- Laws of `number`.
 use mathlib.Core.Path.{_≡_, refl, sym, ap, _∙_}
 use mathlib.Core.Bool.{Bool, true, false, cond, _&&_}
 use mathlib.Core.Logic.{_⊎_, inl, inr}

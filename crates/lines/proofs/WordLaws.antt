@@ -1,4 +1,4 @@
--- Laws of `words`. Assumes nothing.
+-- Laws of `words`.
 use mathlib.Core.Path.{_≡_, refl, sym, ap, _∙_}
 use mathlib.Core.Bool.{Bool, true, false, not, cond}
 use mathlib.Core.Logic.{_⊎_, inl, inr}

@@ -4,7 +4,7 @@ ghost use Prim.Native.Nat.{ℕ, _+_, _<_, _≤_};
 ghost use lib.ListN.{length};
 ghost use Rattle.std.specs.shelf.Lists.{leading};
 ghost use Rattle.std.specs.shelf.Text.{sameBytes};
-ghost use Rattle.lines.specs.Front.{Front-number};
+ghost use Rattle.lines.specs.Front.{front, Front-number};
 ghost use Rattle.lines.specs.Words.{blank, ink, inline, bare, First-word, First-line};
 
 // Why a word is no number.
@@ -94,6 +94,14 @@ pub fn word(s: &[u8]) -> (&[u8], &[u8])
 {
     let rest = &s[blanks(s)..];
     rest.split_at(inked(rest))
+}
+
+// The word that stands at the front, empty where a blank does.
+pub fn front(s: &[u8]) -> &[u8]
+    ensures { λ r. ⌜ (now r ≡ front (now (s .entry))) × (length (now r) ≡ leading ink (now (s .entry))) ⌝ }
+{
+    let (w, _) = s.split_at(inked(s));
+    w
 }
 
 // The number that stands at the front, and how long its word is.
