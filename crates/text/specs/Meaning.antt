@@ -50,28 +50,26 @@ drafted d = record { name = vec-items (d .name); line = d .line; gates = vec-ite
 abbrev pub fresh : (name : List ℕ) (line : ℕ) → Drafted
 fresh name line = record { name = name; line = line; gates = []; registers = []; times = []; miscount = None }
 
-abbrev pub with-gates : Drafted → List ℕ → Drafted
-with-gates d xs = record { name = d .name; line = d .line; gates = xs; registers = d .registers; times = d .times; miscount = d .miscount }
-
-abbrev pub with-registers : Drafted → List ℕ → Drafted
-with-registers d xs = record { name = d .name; line = d .line; gates = d .gates; registers = xs; times = d .times; miscount = d .miscount }
-
-abbrev pub with-times : Drafted → List ℕ → Drafted
-with-times d xs = record { name = d .name; line = d .line; gates = d .gates; registers = d .registers; times = xs; miscount = d .miscount }
-
 -- a miscounted line is kept unless one is kept already of the same part or an earlier one: gates, then registers, then times
 abbrev pub noted : Option Miscount → Refusal → ℕ → Option Miscount
 noted None e n = Some (record { refusal = e; line = n })
 noted (Some m) e n = cond (ltb (place-of e) (place-of (m .refusal))) (Some (record { refusal = e; line = n })) (Some m)
 
-abbrev pub with-miscount : Drafted → Refusal → ℕ → Drafted
-with-miscount d e n = record { name = d .name; line = d .line; gates = d .gates; registers = d .registers; times = d .times; miscount = noted (d .miscount) e n }
+-- a draft with other numbers of one part and another miscounted line
+abbrev pub with-gates : Drafted → List ℕ → Option Miscount → Drafted
+with-gates d xs m = record { name = d .name; line = d .line; gates = xs; registers = d .registers; times = d .times; miscount = m }
 
--- numbers are added to their part, or the line's count of them is wrong
-abbrev pub row : (good : List ℕ → Drafted) (bad : Drafted) → Result (Option (List ℕ)) Expected → Result (Bool × Drafted) Expected
-row good bad (Ok (Some ns)) = Ok (true, good ns)
-row good bad (Ok None) = Ok (true, bad)
-row good bad (Err e) = Err e
+abbrev pub with-registers : Drafted → List ℕ → Option Miscount → Drafted
+with-registers d xs m = record { name = d .name; line = d .line; gates = d .gates; registers = xs; times = d .times; miscount = m }
+
+abbrev pub with-times : Drafted → List ℕ → Option Miscount → Drafted
+with-times d xs m = record { name = d .name; line = d .line; gates = d .gates; registers = d .registers; times = xs; miscount = m }
+
+-- numbers are added to those of their part, or line n is miscounted, to be refused by e
+abbrev pub row : (put : List ℕ → Option Miscount → Drafted) (part : List ℕ) (m : Option Miscount) (e : Refusal) (n : ℕ) → Result (Option (List ℕ)) Expected → Result (Bool × Drafted) Expected
+row put part m e n (Ok (Some ns)) = Ok (true, put (part ++ ns) m)
+row put part m e n (Ok None) = Ok (true, put part (noted m e n))
+row put part m e n (Err k) = Err k
 
 abbrev pub ending : Drafted → List (List ℕ) → Result (Bool × Drafted) Expected
 ending d [] = Ok (false, d)
@@ -79,9 +77,9 @@ ending d (w ∷ ws) = Err Nothing
 
 -- what line n makes of a circuit, by its keyword and its other words
 abbrev pub said : Keyword → ℕ → Drafted → List (List ℕ) → Result (Bool × Drafted) Expected
-said Gate n d ws = row (λ ns. with-gates d (d .gates ++ ns)) (with-miscount d GateNumbers n) (fields 2 0 7 ws)
-said Register n d ws = row (λ ns. with-registers d (d .registers ++ ns)) (with-miscount d RegisterNumbers n) (fields 3 0 3 ws)
-said Times n d ws = row (λ ns. with-times d (d .times ++ ns)) (with-miscount d TimeNumbers n) (fields 5 0 5 ws)
+said Gate n d ws = row (with-gates d) (d .gates) (d .miscount) GateNumbers n (fields 2 0 7 ws)
+said Register n d ws = row (with-registers d) (d .registers) (d .miscount) RegisterNumbers n (fields 3 0 3 ws)
+said Times n d ws = row (with-times d) (d .times) (d .miscount) TimeNumbers n (fields 5 0 5 ws)
 said End n d ws = ending d ws
 said Circuit n d ws = Err Statement
 said Unknown n d ws = Err Statement
@@ -140,8 +138,17 @@ unfoldable pub first-circuit : ℕ → List (List ℕ) → Outcome
 first-circuit n [] = Ok None
 first-circuit n (l ∷ ls) = found (words (bare l)) n ls (first-circuit (n + 1) ls)
 
--- the code's answer r to the numbers of a line, with their part before and after it
-abbrev pub Added : Result (Option (List ℕ)) Expected → (before after : List ℕ) → Result Bool Expected → Type 0
-Added x before after (Ok true) = (ns : List ℕ) × (x ≡ Ok (Some ns)) × (after ≡ before ++ ns)
-Added x before after (Ok false) = (x ≡ Ok None) × (after ≡ before)
-Added x before after (Err e) = ((e ≡ Memory) ⊎ (x ≡ Err e)) × (after ≡ before)
+-- the code's answer r to the numbers x of line n, with their part and the miscounted line before and after it
+abbrev pub Added : Result (Option (List ℕ)) Expected → (e : Refusal) (n : ℕ) (part part′ : List ℕ) (m m′ : Option Miscount) → Result Bool Expected → Type 0
+Added x e n part part′ m m′ (Ok more) = (more ≡ true) × (((ns : List ℕ) × (x ≡ Ok (Some ns)) × (part′ ≡ part ++ ns) × (m′ ≡ m)) ⊎ ((x ≡ Ok None) × (part′ ≡ part) × (m′ ≡ noted m e n)))
+Added x e n part part′ m m′ (Err k) = (k ≡ Memory) ⊎ (x ≡ Err k)
+
+-- the code's answer r for what is said of a line, with the draft d after it
+abbrev pub Stated : Result (Bool × Drafted) Expected → Drafted → Result Bool Expected → Type 0
+Stated o d (Ok more) = o ≡ Ok (more, d)
+Stated o d (Err e) = (e ≡ Memory) ⊎ (o ≡ Err e)
+
+-- the code's answer r for the words after `end`
+abbrev pub Ended : List (List ℕ) → Result Bool Expected → Type 0
+Ended ws (Ok more) = (more ≡ false) × (ws ≡ [])
+Ended ws (Err e) = (e ≡ Nothing) × ((w : List ℕ) × (vs : List (List ℕ)) × (ws ≡ w ∷ vs))

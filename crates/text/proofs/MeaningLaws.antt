@@ -1,0 +1,58 @@
+-- Laws of what a text of circuits means.
+use mathlib.Core.Path.{_≡_, refl, sym, ap, _∙_}
+use mathlib.Core.Bool.{Bool, true, false}
+use mathlib.Core.Logic.{_⊎_, inl, inr}
+use mathlib.Core.List.{List, [], _∷_, _++_}
+use Prim.Native.Nat.{ℕ, _+_, _<_}
+use native.Mathlib.Omega.{arith}
+use lib.ListN.{length}
+use Rattle.std.specs.declared.option.Option.{Option}
+use Rattle.std.specs.declared.option.Option.the-variants.{Some, None}
+use Rattle.std.specs.declared.result.Result.{Result}
+use Rattle.std.specs.declared.result.Result.the-variants.{Ok, Err}
+use Rattle.circuit.specs.declared.refusal.Refusal.{Refusal}
+use Rattle.lines.specs.Words.{words, lines, bare, First-word}
+use Rattle.fields.specs.declared.fault.Expected.{Expected}
+use Rattle.fields.specs.declared.fault.Expected.the-variants.{End as Ending}
+use Rattle.text.specs.declared.draft.Keyword.{Keyword}
+use Rattle.text.specs.declared.draft.Miscount.{Miscount}
+use Rattle.text.specs.Meaning.{Drafted, meaning, row, ending, said, statement, went, inside, found, first-circuit, Added, Ended, Stated}
+
+-- a line without a word, and one with
+pub no-word : {s w rest : List ℕ} (cut : First-word s w rest) (n : ℕ) (d : Drafted) → length w ≡ 0 → statement n d (words s) ≡ Ok (true, d)
+unfolding statement
+no-word cut n d z = rw (cut .none z) refl
+
+pub at-word : {s w rest : List ℕ} (cut : First-word s w rest) (n : ℕ) (d : Drafted) (k : Keyword) → 0 < length w → k ≡ meaning w → statement n d (words s) ≡ said k n d (words rest)
+unfolding statement
+at-word {w} {rest} cut n d k p e = rw (cut .some p) (ap (λ x. said x n d (words rest)) (sym e))
+
+pub added : (o : Result (Bool × Drafted) Expected) (put : List ℕ → Option Miscount → Drafted) (x : Result (Option (List ℕ)) Expected) (e : Refusal) (n : ℕ)
+    (part part′ : List ℕ) (m m′ : Option Miscount) (r : Result Bool Expected) → o ≡ row put part m e n x → Added x e n part part′ m m′ r → Stated o (put part′ m′) r
+added o put x e n part part′ m m′ (Ok more) is (more-is, inl (ns, x-is, part-is, m-is)) = rw (more-is, part-is, m-is) (is ∙ rw x-is refl)
+added o put x e n part part′ m m′ (Ok more) is (more-is, inr (x-is, part-is, m-is)) = rw (more-is, part-is, m-is) (is ∙ rw x-is refl)
+added o put x e n part part′ m m′ (Err k) is (inl memory) = inl memory
+added o put x e n part part′ m m′ (Err k) is (inr x-is) = inr (is ∙ rw x-is refl)
+
+pub ended : (o : Result (Bool × Drafted) Expected) (ws : List (List ℕ)) (d : Drafted) (r : Result Bool Expected) → o ≡ ending d ws → Ended ws r → Stated o d r
+ended o ws d (Ok more) is (more-is, none) = rw more-is (is ∙ rw none refl)
+ended o ws d (Err k) is (k-is, (w, vs, some)) = inr (is ∙ rw (k-is, some) refl)
+
+-- one line more
+pub one-line : {xs ls : List (List ℕ)} {l b : List ℕ} (n : ℕ) (d : Drafted) → xs ≡ l ∷ ls → b ≡ bare l → inside n d xs ≡ went (statement n d (words b)) n ls (λ d′. inside (n + 1) d′ ls)
+unfolding inside
+one-line n d e f = rw (e, f) refl
+
+pub no-line : (s : List ℕ) (n : ℕ) (d : Drafted) → length s ≡ 0 → inside n d (lines s) ≡ Err (record { line = n; expected = Ending })
+unfolding inside lines
+no-line [] n d e = refl
+no-line (b ∷ s) n d e = absurd (omega arith)
+
+pub one-line-outside : {xs ls : List (List ℕ)} {l b : List ℕ} (n : ℕ) → xs ≡ l ∷ ls → b ≡ bare l → first-circuit n xs ≡ found (words b) n ls (first-circuit (n + 1) ls)
+unfolding first-circuit
+one-line-outside n e f = rw (e, f) refl
+
+pub no-line-outside : (s : List ℕ) (n : ℕ) → length s ≡ 0 → first-circuit n (lines s) ≡ Ok None
+unfolding first-circuit lines
+no-line-outside [] n e = refl
+no-line-outside (b ∷ s) n e = absurd (omega arith)
