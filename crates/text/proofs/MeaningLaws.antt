@@ -1,22 +1,25 @@
 -- Laws of what a text of circuits means.
 use mathlib.Core.Path.{_≡_, refl, sym, ap, _∙_}
-use mathlib.Core.Bool.{Bool, true, false}
+use mathlib.Core.Bool.{Bool, true, false, _&&_}
 use mathlib.Core.Logic.{_⊎_, inl, inr}
 use mathlib.Core.List.{List, [], _∷_, _++_}
-use Prim.Native.Nat.{ℕ, _+_, _<_}
+use Prim.Native.Nat.{ℕ, _+_, _≤_, _<_}
 use native.Mathlib.Omega.{arith}
-use lib.ListN.{length}
+use lib.Chars.{codes}
+use lib.ListN.{length, getD, drop}
+use Rattle.std.proofs.shelf.Lists.{at-drop-more, at-drop-all}
 use Rattle.std.specs.declared.option.Option.{Option}
 use Rattle.std.specs.declared.option.Option.the-variants.{Some, None}
 use Rattle.std.specs.declared.result.Result.{Result}
 use Rattle.std.specs.declared.result.Result.the-variants.{Ok, Err}
+use Rattle.std.specs.shelf.Text.{sameBytes}
 use Rattle.circuit.specs.declared.refusal.Refusal.{Refusal}
 use Rattle.lines.specs.Words.{words, lines, bare, First-word}
 use Rattle.fields.specs.declared.fault.Expected.{Expected}
-use Rattle.fields.specs.declared.fault.Expected.the-variants.{End as Ending}
+use Rattle.fields.specs.declared.fault.Expected.the-variants.{Circuit as Opening, End as Ending}
 use Rattle.text.specs.declared.draft.Keyword.{Keyword}
 use Rattle.text.specs.declared.draft.Miscount.{Miscount}
-use Rattle.text.specs.Meaning.{Drafted, meaning, row, ending, said, statement, went, inside, found, first-circuit, Added, Ended, Stated}
+use Rattle.text.specs.Meaning.{Drafted, meaning, row, ending, said, statement, went, inside, begins, first-circuit, printable, all-printable, title, Added, Ended, Stated}
 
 -- a line without a word, and one with
 pub no-word : {s w rest : List ℕ} (cut : First-word s w rest) (n : ℕ) (d : Drafted) → length w ≡ 0 → statement n d (words s) ≡ Ok (true, d)
@@ -48,11 +51,39 @@ unfolding inside lines
 no-line [] n d e = refl
 no-line (b ∷ s) n d e = absurd (omega arith)
 
-pub one-line-outside : {xs ls : List (List ℕ)} {l b : List ℕ} (n : ℕ) → xs ≡ l ∷ ls → b ≡ bare l → first-circuit n xs ≡ found (words b) n ls (first-circuit (n + 1) ls)
-unfolding first-circuit
-one-line-outside n e f = rw (e, f) refl
+-- outside of a circuit: a line without a word, and one with
+module _ {xs ls : List (List ℕ)} {l b w rest : List ℕ} (n : ℕ) (first : xs ≡ l ∷ ls) (b-is : b ≡ bare l) (cut : First-word b w rest) where
+  pub blank-outside : length w ≡ 0 → first-circuit n xs ≡ first-circuit (n + 1) ls
+  unfolding first-circuit
+  blank-outside z = rw (first, ← b-is, cut .none z) refl
+
+  pub other-outside : 0 < length w → false ≡ sameBytes w (codes "circuit") → first-circuit n xs ≡ Err (record { line = n; expected = Opening })
+  unfolding first-circuit
+  other-outside p e = rw (first, ← b-is, cut .some p, ← e) refl
+
+  pub opens : 0 < length w → true ≡ sameBytes w (codes "circuit") → first-circuit n xs ≡ begins (title (words rest)) n ls
+  unfolding first-circuit
+  opens p e = rw (first, ← b-is, cut .some p, ← e) refl
 
 pub no-line-outside : (s : List ℕ) (n : ℕ) → length s ≡ 0 → first-circuit n (lines s) ≡ Ok None
 unfolding first-circuit lines
 no-line-outside [] n e = refl
 no-line-outside (b ∷ s) n e = absurd (omega arith)
+
+-- one byte of a name more
+module _ (xs : List ℕ) (i : ℕ) (h : i < length xs) (sofar : all-printable (drop i xs) ≡ all-printable xs) where
+  here : all-printable (drop i xs) ≡ printable (getD xs i 0) && all-printable (drop (i + 1) xs)
+  here = at-drop-more all-printable xs i 0 h
+
+  pub unprintable : printable (getD xs i 0) ≡ false → false ≡ all-printable xs
+  unprintable e = sym (sym sofar ∙ here ∙ rw e)
+
+  pub printable-more : printable (getD xs i 0) ≡ true → all-printable (drop (i + 1) xs) ≡ all-printable xs
+  printable-more e = sym (rw e at here) ∙ sofar
+
+pub printable-all : (xs : List ℕ) (i : ℕ) → length xs ≤ i → all-printable (drop i xs) ≡ all-printable xs → true ≡ all-printable xs
+printable-all xs i h sofar = sym (at-drop-all all-printable xs i h) ∙ sofar
+
+pub no-title : (s w rest : List ℕ) → First-word s w rest → length w ≡ 0 → title (words s) ≡ Ok w
+no-title s [] rest cut z = rw (cut .none z) refl
+no-title s (b ∷ w) rest cut z = absurd (omega arith)

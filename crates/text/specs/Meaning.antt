@@ -4,6 +4,7 @@ use mathlib.Core.Bool.{Bool, true, false, cond, _&&_}
 use mathlib.Core.List.{List, [], _∷_, _++_}
 use mathlib.Core.Logic.{_⊎_}
 use Prim.Native.Nat.{ℕ, _+_}
+use denote.Ref.{RefT, now}
 use lib.Chars.{codes}
 use lib.Dec.{ltb}
 use Rattle.std.specs.declared.option.Option.{Option}
@@ -11,6 +12,7 @@ use Rattle.std.specs.declared.option.Option.the-variants.{Some, None}
 use Rattle.std.specs.declared.result.Result.{Result}
 use Rattle.std.specs.declared.result.Result.the-variants.{Ok, Err}
 use Rattle.std.specs.shelf.Text.{sameBytes}
+use Rattle.std.specs.Results.{Cases}
 use Rattle.std.specs.Of.Vec.{vec-items}
 use Rattle.circuit.specs.Refused.{place-of}
 use Rattle.circuit.specs.declared.refusal.Refusal.{Refusal}
@@ -121,22 +123,17 @@ abbrev pub begins : Result (List ℕ) Expected → ℕ → List (List ℕ) → O
 begins (Ok name) n ls = inside (n + 1) (fresh name n) ls
 begins (Err e) n ls = Err (record { line = n; expected = e })
 
-abbrev pub opened : Keyword → List (List ℕ) → ℕ → List (List ℕ) → Outcome
-opened Circuit ws n ls = begins (title ws) n ls
-opened Times ws n ls = Err (record { line = n; expected = Opening })
-opened Register ws n ls = Err (record { line = n; expected = Opening })
-opened Gate ws n ls = Err (record { line = n; expected = Opening })
-opened End ws n ls = Err (record { line = n; expected = Opening })
-opened Unknown ws n ls = Err (record { line = n; expected = Opening })
-
+-- what line n is outside of a circuit: nothing, or the beginning of one
 abbrev pub found : List (List ℕ) → ℕ → List (List ℕ) → Outcome → Outcome
 found [] n ls more = more
-found (w ∷ ws) n ls more = opened (meaning w) ws n ls
+found (w ∷ ws) n ls more = cond (sameBytes w (codes "circuit")) (begins (title ws) n ls) (Err (record { line = n; expected = Opening }))
 
 -- line after line from line n on, up to a circuit's beginning
 unfoldable pub first-circuit : ℕ → List (List ℕ) → Outcome
 first-circuit n [] = Ok None
 first-circuit n (l ∷ ls) = found (words (bare l)) n ls (first-circuit (n + 1) ls)
+
+-- THE MEANING OF A TEXT is `first-circuit 1` of its lines, and then the same of the lines that are left.
 
 -- the code's answer r to the numbers x of line n, with their part and the miscounted line before and after it
 abbrev pub Added : Result (Option (List ℕ)) Expected → (e : Refusal) (n : ℕ) (part part′ : List ℕ) (m m′ : Option Miscount) → Result Bool Expected → Type 0
@@ -152,3 +149,7 @@ Stated o d (Err e) = (e ≡ Memory) ⊎ (o ≡ Err e)
 abbrev pub Ended : List (List ℕ) → Result Bool Expected → Type 0
 Ended ws (Ok more) = (more ≡ false) × (ws ≡ [])
 Ended ws (Err e) = (e ≡ Nothing) × ((w : List ℕ) × (vs : List (List ℕ)) × (ws ≡ w ∷ vs))
+
+-- the code's answer r for a name
+abbrev pub Titled : Result (List ℕ) Expected → Result (RefT (List ℕ)) Expected → Type 0
+Titled t r = Cases r (λ name. t ≡ Ok (now name)) (λ e. t ≡ Err e)

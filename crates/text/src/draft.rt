@@ -31,3 +31,11 @@ pub struct Draft {
     pub times: Vec<u32>,
     pub miscount: Option<Miscount>,
 }
+
+// A circuit that was read, with the number of the next line and the text from there on.
+#[derive(Drop)]
+pub struct Read<'a> {
+    pub draft: Draft,
+    pub next: usize,
+    pub rest: &'a [u8],
+}

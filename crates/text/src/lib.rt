@@ -12,17 +12,20 @@ ghost use Rattle.std.specs.declared.result.Result.the-variants.{Ok, Err};
 ghost use Rattle.lines.specs.Words.{words, lines};
 ghost use Rattle.fields.specs.Fields.{fields};
 ghost use Rattle.fields.specs.declared.fault.Expected.the-variants.{Memory};
-ghost use Rattle.text.specs.Meaning.{meaning, drafted, noted, statement, inside, all-printable, title, first-circuit, Added, Ended, Stated};
+ghost use Rattle.text.specs.Meaning.{meaning, drafted, noted, statement, inside, printable, all-printable, title, begins, first-circuit, Added, Ended, Stated, Titled};
+ghost use Rattle.text.specs.Read.{Was-read, Is-read};
 use circuit::Refusal;
 use fields::Expected;
 use fields::ExpectedFromAlloc;
 use fields::Fault;
+use std::alloc::Global;
 
 mod draft;
 
 pub use draft::Draft;
 pub use draft::Keyword;
 pub use draft::Miscount;
+pub use draft::Read;
 
 fn keyword_of(w: &[u8]) -> Keyword
     ensures { λ r. ⌜ r ≡ meaning (now (w .entry)) ⌝ }
@@ -116,4 +119,95 @@ impl Draft {
             Keyword::Unknown => Err(Expected::Statement),
         }
     }
+}
+
+fn is_printable(b: u8) -> bool
+    ensures { λ r. ⌜ r ≡ printable b ⌝ }
+{
+    b > 32 && b < 127
+}
+
+// Whether a name has printable ASCII alone.
+fn all_printable(name: &[u8]) -> bool
+    ensures { λ r. ⌜ r ≡ all-printable (now (name .entry)) ⌝ }
+{
+    for b in name {
+        if !is_printable(*b) {
+            return false;
+        }
+    }
+    true
+}
+
+// The name that stands after `circuit`, empty where there is none.
+fn title(text: &[u8]) -> Result<&[u8], Expected>
+    ensures { λ r. ⌜ Titled (title (words (now (text .entry)))) r ⌝ }
+{
+    let (name, rest) = lines::word(text);
+    if name.is_empty() {
+        return Ok(name);
+    }
+    let (more, _) = lines::word(rest);
+    if more.is_empty() && all_printable(name) { Ok(name) } else { Err(Expected::Name) }
+}
+
+// The lines from inside a circuit, of which the first has number `first`, to its end.
+fn inside<'a>(text: &'a [u8], first: usize, mut draft: Draft) -> Result<Read<'a>, Fault>
+    requires { ⌜ first + length (now text) < 2 ^ 64 ⌝ }
+    ensures { λ r. ⌜ Was-read (inside first (drafted draft) (lines (now (text .entry)))) r ⌝ }
+{
+    let mut rest = text;
+    let mut n = first;
+    while !rest.is_empty() {
+        let (l, after) = lines::line(rest);
+        match draft.statement(lines::bare(l), n) {
+            Ok(more) => {
+                if !more {
+                    return Ok(Read { draft, next: n + 1, rest: after });
+                }
+            }
+            Err(expected) => return Err(Fault { line: n, expected }),
+        }
+        n += 1;
+        rest = after;
+    }
+    Err(Fault { line: n, expected: Expected::End })
+}
+
+// A circuit with its name, from the text after `circuit` on line `n`, and the lines after that one.
+fn begin<'a>(heap: Global, text: &[u8], n: usize, after: &'a [u8]) -> Result<Read<'a>, Fault>
+    requires { ⌜ n + 1 + length (now after) < 2 ^ 64 ⌝ }
+    ensures { λ r. ⌜ Was-read (begins (title (words (now (text .entry)))) n (lines (now (after .entry)))) r ⌝ }
+{
+    let name = match title(text) {
+        Ok(name) => name,
+        Err(expected) => return Err(Fault { line: n, expected }),
+    };
+    let name = match Vec::from_slice(heap, name) {
+        Ok(name) => name,
+        Err(_) => return Err(Fault { line: n, expected: Expected::Memory }),
+    };
+    let draft = Draft { name, line: n, gates: Vec::new(heap), registers: Vec::new(heap), times: Vec::new(heap), miscount: None };
+    inside(after, n + 1, draft)
+}
+
+// The first circuit of a text, None where there is none; lines are counted from 1.
+pub fn read<'a>(heap: Global, text: &'a [u8]) -> Result<Option<Read<'a>>, Fault>
+    ensures { λ r. ⌜ Is-read (first-circuit 1 (lines (now (text .entry)))) r ⌝ }
+{
+    let mut rest = text;
+    let mut n = 1;
+    while !rest.is_empty() {
+        let (l, after) = lines::line(rest);
+        let (w, more) = lines::word(lines::bare(l));
+        if !w.is_empty() {
+            if !lines::same(w, b"circuit") {
+                return Err(Fault { line: n, expected: Expected::Circuit });
+            }
+            return Ok(Some(begin(heap, more, n, after)?));
+        }
+        n += 1;
+        rest = after;
+    }
+    Ok(None)
 }
