@@ -1,4 +1,5 @@
 pub mod Joined
 pub mod LentLaws
+pub mod Order
 pub mod Signals
 pub mod Tables

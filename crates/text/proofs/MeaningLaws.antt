@@ -3,11 +3,12 @@ use mathlib.Core.Path.{_≡_, refl, sym, ap, _∙_}
 use mathlib.Core.Bool.{Bool, true, false, _&&_}
 use mathlib.Core.Logic.{_⊎_, inl, inr}
 use mathlib.Core.List.{List, [], _∷_, _++_}
-use Prim.Native.Nat.{ℕ, _+_, _≤_, _<_}
+use Prim.Native.Nat.{ℕ, _+_, _-_, _≤_, _<_}
 use native.Mathlib.Omega.{arith}
 use lib.Chars.{codes}
 use lib.ListN.{length, getD, drop}
 use Rattle.std.proofs.shelf.Lists.{at-drop-more, at-drop-all}
+use Rattle.std.proofs.shelf.Tests.{eq-eqb, ne-eqb}
 use Rattle.std.specs.declared.option.Option.{Option}
 use Rattle.std.specs.declared.option.Option.the-variants.{Some, None}
 use Rattle.std.specs.declared.result.Result.{Result}
@@ -19,7 +20,7 @@ use Rattle.fields.specs.declared.fault.Expected.{Expected}
 use Rattle.fields.specs.declared.fault.Expected.the-variants.{Circuit as Opening, End as Ending}
 use Rattle.text.specs.declared.draft.Keyword.{Keyword}
 use Rattle.text.specs.declared.draft.Miscount.{Miscount}
-use Rattle.text.specs.Meaning.{Drafted, meaning, row, ending, said, statement, went, inside, begins, first-circuit, printable, all-printable, title, Added, Ended, Stated}
+use Rattle.text.specs.Meaning.{Drafted, meaning, row, ending, said, statement, went, inside, begins, first-circuit, begins-with, line-of, printable, all-printable, title, Added, Ended, Stated}
 
 -- a line without a word, and one with
 pub no-word : {s w rest : List ℕ} (cut : First-word s w rest) (n : ℕ) (d : Drafted) → length w ≡ 0 → statement n d (words s) ≡ Ok (true, d)
@@ -87,3 +88,28 @@ printable-all xs i h sofar = sym (at-drop-all all-printable xs i h) ∙ sofar
 pub no-title : (s w rest : List ℕ) → First-word s w rest → length w ≡ 0 → title (words s) ≡ Ok w
 no-title s [] rest cut z = rw (cut .none z) refl
 no-title s (b ∷ w) rest cut z = absurd (omega arith)
+
+pub no-first : {s w rest : List ℕ} (cut : First-word s w rest) (word : List ℕ) → length w ≡ 0 → false ≡ begins-with word (words s)
+no-first cut word z = rw (cut .none z) refl
+
+pub a-first : {s w rest : List ℕ} (cut : First-word s w rest) (word : List ℕ) → 0 < length w → sameBytes w word ≡ begins-with word (words s)
+a-first cut word p = rw (cut .some p) refl
+
+-- the search for a line: past one that does not begin with the word, and at one that does
+module _ {xs ls : List (List ℕ)} {l : List ℕ} (word : List ℕ) (i n : ℕ) (first : xs ≡ l ∷ ls) where
+  pub other-passed : false ≡ begins-with word (words (bare l)) → line-of word i n xs ≡ line-of word i (n + 1) ls
+  unfolding line-of
+  other-passed e = rw (first, ← e) refl
+
+  pub found-here : true ≡ begins-with word (words (bare l)) → i ≡ 0 → line-of word i n xs ≡ Some n
+  unfolding line-of
+  found-here e z = rw (first, ← e, eq-eqb i 0 z) refl
+
+  pub one-passed : true ≡ begins-with word (words (bare l)) → (i ≡ 0 → ⊥) → line-of word i n xs ≡ line-of word (i - 1) (n + 1) ls
+  unfolding line-of
+  one-passed e more = rw (first, ← e, ne-eqb i 0 more) refl
+
+pub none-passed : (word : List ℕ) (i n : ℕ) (s : List ℕ) → length s ≡ 0 → line-of word i n (lines s) ≡ None
+unfolding line-of lines
+none-passed word i n [] e = refl
+none-passed word i n (b ∷ s) e = absurd (omega arith)

@@ -3,10 +3,10 @@ use mathlib.Core.Path.{_≡_}
 use mathlib.Core.Bool.{Bool, true, false, cond, _&&_}
 use mathlib.Core.List.{List, [], _∷_, _++_}
 use mathlib.Core.Logic.{_⊎_}
-use Prim.Native.Nat.{ℕ, _+_}
+use Prim.Native.Nat.{ℕ, _+_, _-_}
 use denote.Ref.{RefT, now}
 use lib.Chars.{codes}
-use lib.Dec.{ltb}
+use lib.Dec.{eqb, ltb}
 use Rattle.std.specs.declared.option.Option.{Option}
 use Rattle.std.specs.declared.option.Option.the-variants.{Some, None}
 use Rattle.std.specs.declared.result.Result.{Result}
@@ -132,6 +132,16 @@ found (w ∷ ws) n ls more = cond (sameBytes w (codes "circuit")) (begins (title
 unfoldable pub first-circuit : ℕ → List (List ℕ) → Outcome
 first-circuit n [] = Ok None
 first-circuit n (l ∷ ls) = found (words (bare l)) n ls (first-circuit (n + 1) ls)
+
+-- whether the first of the words is this one
+abbrev pub begins-with : (word : List ℕ) → List (List ℕ) → Bool
+begins-with word [] = false
+begins-with word (w ∷ ws) = sameBytes w word
+
+-- the number of the line, from line n on, that is number i, from 0, of those that begin with a word
+unfoldable pub line-of : (word : List ℕ) (i n : ℕ) → List (List ℕ) → Option ℕ
+line-of word i n [] = None
+line-of word i n (l ∷ ls) = cond (begins-with word (words (bare l))) (cond (eqb i 0) (Some n) (line-of word (i - 1) (n + 1) ls)) (line-of word i (n + 1) ls)
 
 -- THE MEANING OF A TEXT is `first-circuit 1` of its lines, and then the same of the lines that are left.
 

@@ -9,10 +9,10 @@ ghost use Rattle.std.specs.Results.{Cases};
 ghost use Rattle.std.specs.Of.Vec.{vec-items};
 ghost use Rattle.std.specs.declared.option.Option.the-variants.{Some, None};
 ghost use Rattle.std.specs.declared.result.Result.the-variants.{Ok, Err};
-ghost use Rattle.lines.specs.Words.{words, lines};
+ghost use Rattle.lines.specs.Words.{words, lines, bare};
 ghost use Rattle.fields.specs.Fields.{fields};
 ghost use Rattle.fields.specs.declared.fault.Expected.the-variants.{Memory};
-ghost use Rattle.text.specs.Meaning.{meaning, drafted, noted, statement, inside, printable, all-printable, title, begins, first-circuit, Added, Ended, Stated, Titled};
+ghost use Rattle.text.specs.Meaning.{meaning, drafted, noted, statement, inside, printable, all-printable, title, begins, first-circuit, begins-with, line-of, Added, Ended, Stated, Titled};
 ghost use Rattle.text.specs.Read.{Was-read, Is-read};
 use circuit::Refusal;
 use fields::Expected;
@@ -210,4 +210,33 @@ pub fn read<'a>(heap: Global, text: &'a [u8]) -> Result<Option<Read<'a>>, Fault>
         rest = after;
     }
     Ok(None)
+}
+
+// Whether a line begins with a word.
+fn begins_with(line: &[u8], word: &[u8]) -> bool
+    ensures { λ r. ⌜ r ≡ begins-with (now (word .entry)) (words (bare (now (line .entry)))) ⌝ }
+{
+    let (w, _) = lines::word(lines::bare(line));
+    if w.is_empty() { false } else { lines::same(w, word) }
+}
+
+// The number of the line, counted from 1, that is number `index`, counted from 0, of those that begin with a word.
+pub fn line_of(text: &[u8], word: &[u8], index: usize) -> Option<usize>
+    ensures { λ r. ⌜ r ≡ line-of (now (word .entry)) index 1 (lines (now (text .entry))) ⌝ }
+{
+    let mut rest = text;
+    let mut n = 1;
+    let mut left = index;
+    while !rest.is_empty() {
+        let (l, after) = lines::line(rest);
+        if begins_with(l, word) {
+            if left == 0 {
+                return Some(n);
+            }
+            left -= 1;
+        }
+        n += 1;
+        rest = after;
+    }
+    None
 }
