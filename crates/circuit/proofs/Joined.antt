@@ -45,29 +45,29 @@ module _ (g r t : List ℕ) where
     pub registers-small : (n : ℕ) → n ≤ length r → Small-to n r → (p : ℕ) → p < length g + n → Small g r t p
     registers-small n le some p h =
         elim (cases-lt p (length g)) [
-          inl in-front ↦ gates-small p in-front
-        | inr past ↦
-            let e : length g + (p - length g) ≡ p = omega arith in
-            let i : p - length g < length r = omega arith in
-            rw (← e) (rw (in-registers (p - length g) i) (some (p - length g) (omega arith)))
+          | inl in-front ↦ gates-small p in-front
+          | inr past ↦
+              let e : length g + (p - length g) ≡ p = omega arith in
+              let i : p - length g < length r = omega arith in
+              rw (← e) (rw (in-registers (p - length g) i) (some (p - length g) (omega arith)))
         ]
 
     pub times-small : (n : ℕ) → Small-to (length r) r → Small-to n t → (p : ℕ) → p < length g + length r + n → Small g r t p
     times-small n registers some p h =
         elim (cases-lt p (length g + length r)) [
-          inl in-front ↦ registers-small (length r) (omega arith) registers p in-front
-        | inr past ↦
-            let e : length g + length r + (p - length g - length r) ≡ p = omega arith in
-            rw (← e) (rw (in-times (p - length g - length r)) (some (p - length g - length r) (omega arith)))
+          | inl in-front ↦ registers-small (length r) (omega arith) registers p in-front
+          | inr past ↦
+              let e : length g + length r + (p - length g - length r) ≡ p = omega arith in
+              rw (← e) (rw (in-times (p - length g - length r)) (some (p - length g - length r) (omega arith)))
         ]
 
     pub all-small : Small-to (length r) r → Small-to (length t) t → (p : ℕ) → Small g r t p
     all-small registers times p =
         elim (cases-lt p (length g + length r + length t)) [
-          inl inside ↦ times-small (length t) registers times p inside
-        | inr past ↦
-            let e : length g + length r + (p - length g - length r) ≡ p = omega arith in
-            rw (← e) (rw (in-times (p - length g - length r), getD-past t (p - length g - length r) 0 (omega arith)) (omega arith))
+          | inl inside ↦ times-small (length t) registers times p inside
+          | inr past ↦
+              let e : length g + length r + (p - length g - length r) ≡ p = omega arith in
+              rw (← e) (rw (in-times (p - length g - length r), getD-past t (p - length g - length r) 0 (omega arith)) (omega arith))
         ]
 
 -- the first number of the row that is not small is the reason, where the counts are right

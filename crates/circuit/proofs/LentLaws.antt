@@ -22,11 +22,11 @@ gates-in-at xs k h = getD-map-counting (gate-in xs) 0 (gate-count xs) k k no-gat
 pub sound-in : (n : ℕ) (gates : List ℕ) → ((k : ℕ) → k < gate-count gates → Placed n gates k) → ((k : ℕ) → k < gate-count gates → Ranged gates k) → Sound (circuit-in n gates)
 sound-in n gates placed ranged = record {
   before = λ k h.
-    let l : k < gate-count gates = omega (arith, gates-in-length gates) in
-    rw (gates-in-at gates k l) (placed k l .0, placed k l .1);
+      let l : k < gate-count gates = omega (arith, gates-in-length gates) in
+      rw (gates-in-at gates k l) (placed k l .0, placed k l .1);
   ranges = λ k h.
-    let l : k < gate-count gates = omega (arith, gates-in-length gates) in
-    rw (gates-in-at gates k l) (ranged k l);
+      let l : k < gate-count gates = omega (arith, gates-in-length gates) in
+      rw (gates-in-at gates k l) (ranged k l);
 }
 
 -- a gate's inputs come before it

@@ -16,10 +16,11 @@ stable a b twice = elim (cases-eq a b) [ inl same ↦ same | inr other ↦ absur
 
 -- whoever is refused by a later number has numbers of the right counts
 pub shaped-before : (g r t : List ℕ) (e : Refusal) → First-refusal g r t e → 2 ≤ number-of e → Shaped g r t
-shaped-before g r t e refused h =
-    (stable _ _ (λ no-seven. later GateNumbers no-seven (omega arith)),
-     stable _ _ (λ no-three. later RegisterNumbers no-three (omega arith)),
-     stable _ _ (λ no-five. later TimeNumbers no-five (omega arith)))
+shaped-before g r t e refused h = (
+  stable _ _ (λ no-seven. later GateNumbers no-seven (omega arith)),
+  stable _ _ (λ no-three. later RegisterNumbers no-three (omega arith)),
+  stable _ _ (λ no-five. later TimeNumbers no-five (omega arith)),
+)
   where
     later : (f : Refusal) → Applies g r t f → number-of f ≤ 1 → ⊥
     later f applies low = elim (refused .first f applies) [ inl below ↦ omega arith | inr same ↦ omega arith ]

@@ -38,7 +38,7 @@ module _ {A : Type 0} (f : ℕ → Gate → A → A → A) where
   along-at n (g ∷ gs) s zero h a b =
       let low : (j : ℕ) → j < n → along f (suc n) gs (one-more n g s) j ≡ s j = λ j q. along-below (suc n) gs (one-more n g s) j (omega arith) ∙ one-more-other n g s j q in
       rw (add-zero, low (g .one) (omega arith), low (g .two) (omega arith))
-        (along-below (suc n) gs (one-more n g s) n (omega arith) ∙ one-more-here n g s)
+      (along-below (suc n) gs (one-more n g s) n (omega arith) ∙ one-more-here n g s)
   along-at n (g ∷ gs) s (suc k) h a b =
       let e : n + suc k ≡ suc n + k = omega arith in
       rw e (along-at (suc n) gs (one-more n g s) k (omega arith) (omega arith) (omega arith))
@@ -63,9 +63,10 @@ each-signal c sound P base step k h = go (suc k) k (omega arith) h
     go : (n k : ℕ) → k < n → k < signals c → P k
     go zero k a h = absurd (omega arith)
     go (suc n) k a h = elim (cases-lt k (c .inputs)) [
-        inl q ↦ base k q
+      | inl q ↦ base k q
       | inr q ↦
           let j : ℕ = k - c .inputs in
           let r : j < length (c .gates) = omega arith in
           let e : c .inputs + j ≡ k = omega arith in
-          rw e at (step j r (go n _ (omega (arith, sound .before j r)) (omega (arith, sound .before j r))) (go n _ (omega (arith, sound .before j r)) (omega (arith, sound .before j r)))) ]
+          rw e at (step j r (go n _ (omega (arith, sound .before j r)) (omega (arith, sound .before j r))) (go n _ (omega (arith, sound .before j r)) (omega (arith, sound .before j r))))
+    ]

@@ -29,8 +29,8 @@ pub at : (f : ℕ → Bool) (n : ℕ) → every f n ≡ true → (t : ℕ) → t
 at f zero e t h = absurd (omega arith)
 at f (suc n) e t h =
     elim (cases-eq t n) [
-      inl s ↦ rw s (and-parts (f n) (every f n) e .0)
-    | inr o ↦ at f n (and-parts (f n) (every f n) e .1) t (omega arith)
+      | inl s ↦ rw s (and-parts (f n) (every f n) e .0)
+      | inr o ↦ at f n (and-parts (f n) (every f n) e .1) t (omega arith)
     ]
 
 pub tables-say : Tables-say
@@ -55,8 +55,8 @@ ones-low u h = eqb-true _ _ (at (λ u. eqb (ones u) (ones-of u)) 16 refl u h)
 pub ones-are : (t : ℕ) → ones (bitAnd t 15) ≡ ones-of t
 ones-are t =
     rw (and-mask t 4)
-      (ones-low (t % 16) (omega arith)
-      ∙ rw (output-low t false false, output-low t true false, output-low t false true, output-low t true true))
+    (ones-low (t % 16) (omega arith)
+    ∙ rw (output-low t false false, output-low t true false, output-low t false true, output-low t true true))
 
 pub output-is : (t x y : ℕ) (a b : Bool) → x ≡ boolByte a → y ≡ boolByte b → eqb (bitAnd (t / 2 ^ (x + 2 * y)) 1) 1 ≡ output t a b
 unfolding output

@@ -10,8 +10,11 @@ use crate::circuit::Circuit;
 use crate::refusal::Refusal;
 
 pub const MOST_REGISTERS: usize = 1_024;
+
 pub const MOST_GATES: usize = 16_384;
+
 pub const LARGEST: u32 = 1_000_000;
+
 const LAST_TABLE: u32 = 15;
 
 // The first index of a number above the largest.
@@ -35,7 +38,10 @@ fn first_misplaced(gates: &[u32], n: usize) -> Option<usize>
     for k in 0..gates.len() / 7 {
         let g = 7 * k;
         let below = n + k;
-        if gates[g] as usize >= below || gates[g + 1] as usize >= below || gates[g + 2] > LAST_TABLE {
+        if gates[g] as usize >= below
+            || gates[g + 1] as usize >= below
+            || gates[g + 2] > LAST_TABLE
+        {
             return Some(k);
         }
     }
@@ -154,7 +160,11 @@ impl<'a> Circuit<'a> {
         requires { ⌜ Whole (now gates) (now registers) (now times) ⌝ }
         ensures { λ r. ⌜ (now (r .gates) ≡ now (gates .entry)) × (now (r .registers) ≡ now (registers .entry)) × (now (r .times) ≡ now (times .entry)) ⌝ }
     {
-        Circuit { gates, registers, times }
+        Circuit {
+            gates,
+            registers,
+            times,
+        }
     }
 }
 

@@ -5,9 +5,9 @@ mod listed;
 mod refusal;
 pub mod table;
 
-pub use circuit::Circuit;
 pub use checks::LARGEST;
 pub use checks::MOST_GATES;
 pub use checks::MOST_REGISTERS;
 pub use checks::look;
+pub use circuit::Circuit;
 pub use refusal::Refusal;

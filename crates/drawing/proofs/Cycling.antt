@@ -49,7 +49,7 @@ module _ (g rs : List ℕ) (sound : Sound (drawn g rs)) (taken : (r : ℕ) → r
       let same : (k : ℕ) → k < signal-count g rs → settled b₁ k ≡ ideal (drawn g rs) now k = agree (bit-at b₁) now (sofar .bits-held .filled) in
       let e : n + 1 - 1 ≡ n = omega arith in
       let kept : (k : ℕ) → signal-count g rs ≤ k → bit-at s₁ k ≡ bit-at s k = λ k q.
-            elim (cases-lt 0 n) [ inl some ↦ sofar .some some .rest k q | inr none ↦ ap (λ xs. bit-at xs k) (sofar .none (omega arith)) ] in
+      elim (cases-lt 0 n) [ inl some ↦ sofar .some some .rest k q | inr none ↦ ap (λ xs. bit-at xs k) (sofar .none (omega arith)) ] in
       record {
         bits-held = record {
           filled = λ r h. bits .filled r h ∙ same (takes rs r) (taken r h) ∙ rw add-one;

@@ -20,7 +20,11 @@ fn output_of(gates: &[u32], signals: &[bool]) -> bool
     requires two { ⌜ getD (now gates) 1 0 < length (now signals) ⌝ }
     ensures { λ r. ⌜ r ≡ output (getD (now (gates .entry)) 2 0) (bit-at (now (signals .entry)) (getD (now (gates .entry)) 0 0)) (bit-at (now (signals .entry)) (getD (now (gates .entry)) 1 0)) ⌝ }
 {
-    table::output(gates[2], signals[gates[0] as usize], signals[gates[1] as usize])
+    table::output(
+        gates[2],
+        signals[gates[0] as usize],
+        signals[gates[1] as usize],
+    )
 }
 
 // What every signal is, from the bits of `n` sources with which `signals` begins: each turn takes the first gate, and
@@ -94,11 +98,16 @@ fn one_cycle(circuit: Circuit<'_>, bits: &mut [bool], signals: &mut [bool])
 
 // `count` cycles from the bits that the registers hold: in each, all of them at once take what their signals are.
 // `signals` is lent to work in. Room that is too short for the bits, or then for the signals, is refused.
-pub fn cycles(circuit: Circuit<'_>, count: u64, bits: &mut [bool], signals: &mut [bool]) -> Result<(), Refusal>
+pub fn cycles(
+    circuit: Circuit<'_>,
+    count: u64,
+    bits: &mut [bool],
+    signals: &mut [bool],
+) -> Result<(), Refusal>
     ensures { λ r. ⌜ Cases r
         (λ _. Cycled (now (circuit .entry .gates)) (now (circuit .entry .registers)) count (now (bits .entry)) (now (bits .exit)) (now (signals .entry)) (now (signals .exit)))
         (λ e. No-rooms (register-count (now (circuit .entry .registers))) (signal-count (now (circuit .entry .gates)) (now (circuit .entry .registers))) (now (bits .entry)) (now (signals .entry)) e
-            × (now (bits .exit) ≡ now (bits .entry)) × (now (signals .exit) ≡ now (signals .entry))) ⌝ }
+        × (now (bits .exit) ≡ now (bits .entry)) × (now (signals .exit) ≡ now (signals .entry))) ⌝ }
 {
     let n = circuit.registers.len() / 3;
     if bits.len() < n {
@@ -119,7 +128,7 @@ pub fn cycle(circuit: Circuit<'_>, bits: &mut [bool], signals: &mut [bool]) -> R
     ensures { λ r. ⌜ Cases r
         (λ _. Cycled (now (circuit .entry .gates)) (now (circuit .entry .registers)) 1 (now (bits .entry)) (now (bits .exit)) (now (signals .entry)) (now (signals .exit)))
         (λ e. No-rooms (register-count (now (circuit .entry .registers))) (signal-count (now (circuit .entry .gates)) (now (circuit .entry .registers))) (now (bits .entry)) (now (signals .entry)) e
-            × (now (bits .exit) ≡ now (bits .entry)) × (now (signals .exit) ≡ now (signals .entry))) ⌝ }
+        × (now (bits .exit) ≡ now (bits .entry)) × (now (signals .exit) ≡ now (signals .entry))) ⌝ }
 {
     cycles(circuit, 1, bits, signals)
 }

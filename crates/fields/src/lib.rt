@@ -16,7 +16,8 @@ pub use fault::ExpectedFromAlloc;
 pub use fault::ExpectedPartialEq;
 pub use fault::Fault;
 
-const NAMES: &[u8] = b"never nor first-only not-second second-only not-first xor nand and xnor first first-or-not-second second second-or-not-first or always";
+const NAMES: &[u8] =
+    b"never nor first-only not-second second-only not-first xor nand and xnor first first-or-not-second second second-or-not-first or always";
 
 // The place of a word among the words of a list.
 fn place(w: &[u8], list: &[u8]) -> Option<u32>

@@ -81,8 +81,8 @@ inky-first : (s : List ℕ) → 0 < length (drop (leading blank s) s) → 0 < le
 inky-first [] h = h
 inky-first (b ∷ bs) h =
     elim (cases-bool (blank b)) [
-      inl e ↦ simp (e, one-add) (inky-first bs (simp (e, one-add) at h))
-    | inr e ↦ simp (e, one-add) (omega arith)
+      | inl e ↦ simp (e, one-add) (inky-first bs (simp (e, one-add) at h))
+      | inr e ↦ simp (e, one-add) (omega arith)
     ]
 
 pub some-front : (rest s : List ℕ) (n : ℕ) → n ≡ leading blank rest → s ≡ drop n rest → 0 < length s → 0 < length (front s)

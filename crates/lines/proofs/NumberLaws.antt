@@ -63,6 +63,6 @@ pub strange : (w : List ℕ) (i : ℕ) → i < length w → (In 48 57 (getD w i 
 unfolding number
 strange w i lt no-digit =
     elim (cases-bool (allDigits w)) [
-      inl e ↦ absurd (no-digit (digit-at w i (own .to w e) lt))
-    | inr e ↦ simp (e, lt-ltb 0 (length w) (omega arith))
+      | inl e ↦ absurd (no-digit (digit-at w i (own .to w e) lt))
+      | inr e ↦ simp (e, lt-ltb 0 (length w) (omega arith))
     ]

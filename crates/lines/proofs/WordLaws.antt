@@ -26,10 +26,10 @@ words-at-ink [] h = absurd (omega arith)
 words-at-ink (b ∷ []) h = elim (cases-bool (blank b)) [ inl e ↦ absurd (let h′ : 0 < 0 = simp e at h in omega arith) | inr e ↦ simp (e, one-add) ]
 words-at-ink (b ∷ c ∷ cs) h =
     elim (cases-bool (blank b)) [
-      inl e ↦ absurd (let h′ : 0 < 0 = simp e at h in omega arith)
-    | inr e ↦ elim (cases-bool (blank c)) [
-        inl f ↦ simp (e, f, one-add)
-      | inr f ↦ let ih = words-at-ink (c ∷ cs) (simp (f, one-add) (omega arith)) in simp (e, f, one-add) (ap (onto b) (simp (f, one-add) at ih))
+      | inl e ↦ absurd (let h′ : 0 < 0 = simp e at h in omega arith)
+      | inr e ↦ elim (cases-bool (blank c)) [
+        | inl f ↦ simp (e, f, one-add)
+        | inr f ↦ let ih = words-at-ink (c ∷ cs) (simp (f, one-add) (omega arith)) in simp (e, f, one-add) (ap (onto b) (simp (f, one-add) at ih))
       ]
     ]
 
@@ -38,8 +38,8 @@ unfolding words
 no-words [] h = refl
 no-words (b ∷ bs) h =
     elim (cases-bool (blank b)) [
-      inl e ↦ simp e (no-words bs (simp (e, one-add) at h))
-    | inr e ↦ absurd (let h′ : suc (leading ink bs) ≡ 0 = simp (e, one-add) at h in omega arith)
+      | inl e ↦ simp e (no-words bs (simp (e, one-add) at h))
+      | inr e ↦ absurd (let h′ : suc (leading ink bs) ≡ 0 = simp (e, one-add) at h in omega arith)
     ]
 
 pub first-word : (s rest w after : List ℕ) (n k : ℕ) → n ≡ leading blank s → rest ≡ drop n s → k ≡ leading ink rest → k ≤ length rest → w ≡ take k rest → after ≡ drop k rest → First-word s w after
@@ -61,8 +61,8 @@ lines-first [] h = absurd (omega arith)
 lines-first (b ∷ []) h = elim (cases-bool (inline b)) [ inl e ↦ simp (e, one-add) | inr e ↦ simp e ]
 lines-first (b ∷ c ∷ cs) h =
     elim (cases-bool (inline b)) [
-      inl e ↦ let ih = lines-first (c ∷ cs) (omega arith) in simp (e, one-add) (ap (onto b) (simp one-add at ih))
-    | inr e ↦ simp e
+      | inl e ↦ let ih = lines-first (c ∷ cs) (omega arith) in simp (e, one-add) (ap (onto b) (simp one-add at ih))
+      | inr e ↦ simp e
     ]
 
 pub cut-line : (s l rest after : List ℕ) (n : ℕ) → 0 < length s → n ≡ leading inline s → l ≡ take n s → rest ≡ drop n s → after ≡ drop 1 rest → lines s ≡ l ∷ lines after

@@ -47,7 +47,11 @@ pub fn line(s: &[u8]) -> (&[u8], &[u8])
 {
     let n = line_len(s);
     let (l, rest) = s.split_at(n);
-    if rest.is_empty() { (l, rest) } else { (l, &rest[1..]) }
+    if rest.is_empty() {
+        (l, rest)
+    } else {
+        (l, &rest[1..])
+    }
 }
 
 // What stands before a comment.

@@ -40,5 +40,5 @@ module _ (g r t : List ℕ) (p : ℕ) (wrong : Small g r t p → ⊥) where
         let big = refuted _ _ wrong in
         let is = rw back at (in-times g r t (p - length g - length r)) in
         let in-them : p - length g - length r < length t =
-              elim (cases-lt (p - length g - length r) (length t)) [ inl l ↦ l | inr beyond ↦ absurd (omega (arith, getD-past t (p - length g - length r) 0 beyond)) ] in
+        elim (cases-lt (p - length g - length r) (length t)) [ inl l ↦ l | inr beyond ↦ absurd (omega (arith, getD-past t (p - length g - length r) 0 beyond)) ] in
         (in-them, (ap TooLarge (omega arith), in-them, refl, omega arith))

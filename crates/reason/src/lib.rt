@@ -11,8 +11,10 @@ ghost use Rattle.reason.specs.Reason.{True-of};
 use circuit::Refusal;
 
 mod detail;
+mod wording;
 
 pub use detail::Detail;
+pub use wording::DetailDisplay;
 
 // A refusal, and what exactly is wrong.
 #[derive(Clone, Copy)]
@@ -92,7 +94,7 @@ pub fn explain(gates: &[u32], registers: &[u32], times: &[u32]) -> Option<Reason
     ensures { λ r. ⌜ Cases r
         (Whole (now (gates .entry)) (now (registers .entry)) (now (times .entry)))
         (λ x. First-refusal (now (gates .entry)) (now (registers .entry)) (now (times .entry)) (x .refusal)
-            × True-of (now (gates .entry)) (now (registers .entry)) (now (times .entry)) (x .refusal) (x .detail)) ⌝ }
+        × True-of (now (gates .entry)) (now (registers .entry)) (now (times .entry)) (x .refusal) (x .detail)) ⌝ }
 {
     let refusal = match circuit::look(gates, registers, times) {
         Ok(()) => return None,

@@ -73,7 +73,13 @@ struct Row {
 }
 
 // The numbers of a line added to their part, or the line kept as a miscounted one.
-fn add(text: &[u8], row: Row, room: &mut [u32], part: &mut Vec<u32>, miscount: &mut Option<Miscount>) -> Result<bool, Expected>
+fn add(
+    text: &[u8],
+    row: Row,
+    room: &mut [u32],
+    part: &mut Vec<u32>,
+    miscount: &mut Option<Miscount>,
+) -> Result<bool, Expected>
     ensures { λ r. ⌜ Added (fields (row .«table_at») 0 (length (now (room .entry))) (words (now (text .entry)))) (row .refusal) (row .line) (vec-items (now (part .entry))) (vec-items (now (part .exit))) (now (miscount .entry)) (now (miscount .exit)) r ⌝ }
 {
     if fields::read(text, row.table_at, room)? {
@@ -89,7 +95,11 @@ fn nothing(text: &[u8]) -> Result<bool, Expected>
     ensures { λ r. ⌜ Ended (words (now (text .entry))) r ⌝ }
 {
     let (w, _) = lines::word(text);
-    if w.is_empty() { Ok(false) } else { Err(Expected::Nothing) }
+    if w.is_empty() {
+        Ok(false)
+    } else {
+        Err(Expected::Nothing)
+    }
 }
 
 impl Draft {
@@ -103,15 +113,33 @@ impl Draft {
         }
         match keyword_of(w) {
             Keyword::Gate => {
-                let row = Row { line: n, refusal: Refusal::GateNumbers, table_at: 2 };
+                let row = Row {
+                    line: n,
+                    refusal: Refusal::GateNumbers,
+                    table_at: 2,
+                };
                 add(rest, row, &mut [0; 7], &mut self.gates, &mut self.miscount)
             }
             Keyword::Register => {
-                let row = Row { line: n, refusal: Refusal::RegisterNumbers, table_at: 3 };
-                add(rest, row, &mut [0; 3], &mut self.registers, &mut self.miscount)
+                let row = Row {
+                    line: n,
+                    refusal: Refusal::RegisterNumbers,
+                    table_at: 3,
+                };
+                add(
+                    rest,
+                    row,
+                    &mut [0; 3],
+                    &mut self.registers,
+                    &mut self.miscount,
+                )
             }
             Keyword::Times => {
-                let row = Row { line: n, refusal: Refusal::TimeNumbers, table_at: 5 };
+                let row = Row {
+                    line: n,
+                    refusal: Refusal::TimeNumbers,
+                    table_at: 5,
+                };
                 add(rest, row, &mut [0; 5], &mut self.times, &mut self.miscount)
             }
             Keyword::End => nothing(rest),
@@ -148,13 +176,17 @@ fn title(text: &[u8]) -> Result<&[u8], Expected>
         return Ok(name);
     }
     let (more, _) = lines::word(rest);
-    if more.is_empty() && all_printable(name) { Ok(name) } else { Err(Expected::Name) }
+    if more.is_empty() && all_printable(name) {
+        Ok(name)
+    } else {
+        Err(Expected::Name)
+    }
 }
 
 // The lines from inside a circuit, of which the first has number `first`, to its end.
 fn inside<'a>(text: &'a [u8], first: usize, mut draft: Draft) -> Result<Read<'a>, Fault>
     requires { ⌜ first + length (now text) < 2 ^ 64 ⌝ }
-    ensures { λ r. ⌜ Was-read (inside first (drafted draft) (lines (now (text .entry)))) r ⌝ }
+    ensures { λ r. ⌜ Was-read (inside first (drafted draft) (lines (now (text .entry)))) (length (now (text .entry))) r ⌝ }
 {
     let mut rest = text;
     let mut n = first;
@@ -163,7 +195,11 @@ fn inside<'a>(text: &'a [u8], first: usize, mut draft: Draft) -> Result<Read<'a>
         match draft.statement(lines::bare(l), n) {
             Ok(more) => {
                 if !more {
-                    return Ok(Read { draft, next: n + 1, rest: after });
+                    return Ok(Read {
+                        draft,
+                        next: n + 1,
+                        rest: after,
+                    });
                 }
             }
             Err(expected) => return Err(Fault { line: n, expected }),
@@ -171,13 +207,16 @@ fn inside<'a>(text: &'a [u8], first: usize, mut draft: Draft) -> Result<Read<'a>
         n += 1;
         rest = after;
     }
-    Err(Fault { line: n, expected: Expected::End })
+    Err(Fault {
+        line: n,
+        expected: Expected::End,
+    })
 }
 
 // A circuit with its name, from the text after `circuit` on line `n`, and the lines after that one.
 fn begin<'a>(heap: Global, text: &[u8], n: usize, after: &'a [u8]) -> Result<Read<'a>, Fault>
     requires { ⌜ n + 1 + length (now after) < 2 ^ 64 ⌝ }
-    ensures { λ r. ⌜ Was-read (begins (title (words (now (text .entry)))) n (lines (now (after .entry)))) r ⌝ }
+    ensures { λ r. ⌜ Was-read (begins (title (words (now (text .entry)))) n (lines (now (after .entry)))) (length (now (after .entry))) r ⌝ }
 {
     let name = match title(text) {
         Ok(name) => name,
@@ -185,15 +224,25 @@ fn begin<'a>(heap: Global, text: &[u8], n: usize, after: &'a [u8]) -> Result<Rea
     };
     let name = match Vec::from_slice(heap, name) {
         Ok(name) => name,
-        Err(_) => return Err(Fault { line: n, expected: Expected::Memory }),
+        Err(_) => return Err(Fault {
+            line: n,
+            expected: Expected::Memory,
+        }),
     };
-    let draft = Draft { name, line: n, gates: Vec::new(heap), registers: Vec::new(heap), times: Vec::new(heap), miscount: None };
+    let draft = Draft {
+        name,
+        line: n,
+        gates: Vec::new(heap),
+        registers: Vec::new(heap),
+        times: Vec::new(heap),
+        miscount: None,
+    };
     inside(after, n + 1, draft)
 }
 
 // The first circuit of a text, None where there is none; lines are counted from 1.
 pub fn read<'a>(heap: Global, text: &'a [u8]) -> Result<Option<Read<'a>>, Fault>
-    ensures { λ r. ⌜ Is-read (first-circuit 1 (lines (now (text .entry)))) r ⌝ }
+    ensures { λ r. ⌜ Is-read (first-circuit 1 (lines (now (text .entry)))) (length (now (text .entry))) r ⌝ }
 {
     let mut rest = text;
     let mut n = 1;
@@ -202,7 +251,10 @@ pub fn read<'a>(heap: Global, text: &'a [u8]) -> Result<Option<Read<'a>>, Fault>
         let (w, more) = lines::word(lines::bare(l));
         if !w.is_empty() {
             if !lines::same(w, b"circuit") {
-                return Err(Fault { line: n, expected: Expected::Circuit });
+                return Err(Fault {
+                    line: n,
+                    expected: Expected::Circuit,
+                });
             }
             return Ok(Some(begin(heap, more, n, after)?));
         }
@@ -217,7 +269,11 @@ fn begins_with(line: &[u8], word: &[u8]) -> bool
     ensures { λ r. ⌜ r ≡ begins-with (now (word .entry)) (words (bare (now (line .entry)))) ⌝ }
 {
     let (w, _) = lines::word(lines::bare(line));
-    if w.is_empty() { false } else { lines::same(w, word) }
+    if w.is_empty() {
+        false
+    } else {
+        lines::same(w, word)
+    }
 }
 
 // The number of the line, counted from 1, that is number `index`, counted from 0, of those that begin with a word.

@@ -10,12 +10,13 @@ returns-then-left-eq0 c = sym (found-here _ _ _ (c .line .ensures .some (search 
 
 pub loop-rest-again : need.loop-rest-again
 loop-rest-again c =
-    let some = c .line .ensures .some (search needs) in
-    (elim (c .if-begins-with .came) [
-        then-begins-with·else-left-eq0 w ↦ rw (w .left-is) (sym (one-passed _ _ _ some (w .if-begins-with .ensures tt) (search needs)) ∙ c .loop-rest .inv .0)
-      | else-begins-with w ↦ rw (w .left-is) (sym (other-passed _ _ _ some (w .if-begins-with .ensures tt)) ∙ c .loop-rest .inv .0)
+    let some = c .line .ensures .some (search needs) in (
+      elim (c .if-begins-with .came) [
+        | then-begins-with·else-left-eq0 w ↦ rw (w .left-is) (sym (one-passed _ _ _ some (w .if-begins-with .ensures tt) (search needs)) ∙ c .loop-rest .inv .0)
+        | else-begins-with w ↦ rw (w .left-is) (sym (other-passed _ _ _ some (w .if-begins-with .ensures tt)) ∙ c .loop-rest .inv .0)
       ],
-     omega (arith, c .line .ensures .less (search needs)))
+      omega (arith, c .line .ensures .less (search needs)),
+    )
 
 pub returns : need.returns
 returns c = sym (none-passed _ _ _ (c .loop-rest .rest .now) (search needs)) ∙ c .loop-rest .inv .0

@@ -18,12 +18,17 @@ returns-in-Break-begin c =
 
 pub returns-then-not-is-empty : need.returns-then-not-is-empty
 returns-then-not-is-empty c =
-    c .loop-rest .inv .0 ∙ opens _ (c .line .ensures .some (search needs)) (c .bare .ensures) (c .word .ensures) (search needs) (c .if-not-same .ensures tt) ∙ c .in-Continue-begin .ensures tt
+    let e = c .in-Continue-begin .ensures tt in (
+      c .loop-rest .inv .0 ∙ opens _ (c .line .ensures .some (search needs)) (c .bare .ensures) (c .word .ensures) (search needs) (c .if-not-same .ensures tt) ∙ e .0,
+      omega (arith, e .1, c .line .ensures .less (search needs)),
+    )
 
 pub loop-rest-again : need.loop-rest-again
-loop-rest-again c =
-    (c .loop-rest .inv .0 ∙ blank-outside _ (c .line .ensures .some (search needs)) (c .bare .ensures) (c .word .ensures) (search needs),
-     omega (arith, c .line .ensures .less (search needs)))
+loop-rest-again c = (
+  c .loop-rest .inv .0 ∙ blank-outside _ (c .line .ensures .some (search needs)) (c .bare .ensures) (c .word .ensures) (search needs),
+  omega (arith, c .line .ensures .less (search needs)),
+  omega (arith, c .line .ensures .less (search needs)),
+)
 
 pub returns : need.returns
 returns c = c .loop-rest .inv .0 ∙ no-line-outside (c .loop-rest .rest .now) _ (search needs)

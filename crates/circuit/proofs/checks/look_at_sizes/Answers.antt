@@ -20,7 +20,7 @@ returns-in-Some-first-large c =
     let t = c .args .times .now in
     let w = c .in-Some-first-large .ensures tt in
     first-large g r t _ (c .pre) (omega (arith, in-registers g r t (c .in-Some-first-large .i) (w .0)))
-      (registers-small g r t (c .in-rest .ensures tt) (c .in-Some-first-large .i) (omega arith) (w .2))
+    (registers-small g r t (c .in-rest .ensures tt) (c .in-Some-first-large .i) (omega arith) (w .2))
 
 pub returns-in-Some-first-large-2 : need.returns-in-Some-first-large-2
 returns-in-Some-first-large-2 c =
@@ -29,10 +29,10 @@ returns-in-Some-first-large-2 c =
     let t = c .args .times .now in
     let w = c .in-Some-first-large-2 .ensures tt in
     first-large g r t _ (c .pre) (omega (arith, in-times g r t (c .in-Some-first-large-2 .i)))
-      (times-small g r t (c .in-rest .ensures tt) (c .in-Some-first-large-2 .i) (c .in-rest-first-large .ensures tt) (w .2))
+    (times-small g r t (c .in-rest .ensures tt) (c .in-Some-first-large-2 .i) (c .in-rest-first-large .ensures tt) (w .2))
 
 pub returns : need.returns
 returns c =
     let s : (p : ℕ) → Small (c .args .gates .now) (c .args .registers .now) (c .args .times .now) p =
-          all-small _ _ _ (c .in-rest .ensures tt) (c .in-rest-first-large .ensures tt) (c .in-rest-first-large-2 .ensures tt) in
+    all-small _ _ _ (c .in-rest .ensures tt) (c .in-rest-first-large .ensures tt) (c .in-rest-first-large-2 .ensures tt) in
     search needs
