@@ -11,3 +11,5 @@ pub use checks::MOST_REGISTERS;
 pub use checks::look;
 pub use circuit::Circuit;
 pub use refusal::Refusal;
+pub use refusal::RefusalDebug;
+pub use refusal::RefusalPartialEq;

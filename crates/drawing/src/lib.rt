@@ -52,9 +52,9 @@ pub fn settle(circuit: Circuit<'_>, signals: &mut [bool]) -> Result<(), Refusal>
         (λ e. No-room (signal-count (now (circuit .entry .gates)) (now (circuit .entry .registers))) (now (signals .entry)) (now (signals .exit)) e) ⌝ }
 {
     let n = circuit.registers.len() / 3;
-    let needed = n + circuit.gates.len() / 7;
-    if signals.len() < needed {
-        return Err(Refusal::NoRoom(needed));
+    let all = n + circuit.gates.len() / 7;
+    if signals.len() < all {
+        return Err(Refusal::NoRoom(all));
     }
     settle_gates(circuit.gates, n, signals);
     Ok(())
