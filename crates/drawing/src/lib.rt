@@ -20,11 +20,9 @@ fn output_of(gates: &[u32], signals: &[bool]) -> bool
     requires two { ⌜ getD (now gates) 1 0 < length (now signals) ⌝ }
     ensures { λ r. ⌜ r ≡ output (getD (now (gates .entry)) 2 0) (bit-at (now (signals .entry)) (getD (now (gates .entry)) 0 0)) (bit-at (now (signals .entry)) (getD (now (gates .entry)) 1 0)) ⌝ }
 {
-    table::output(
-        gates[2],
-        signals[gates[0] as usize],
-        signals[gates[1] as usize],
-    )
+    let one = signals[gates[0] as usize];
+    let two = signals[gates[1] as usize];
+    table::output(gates[2], one, two)
 }
 
 // What every signal is, from the bits of `n` sources with which `signals` begins: each turn takes the first gate, and

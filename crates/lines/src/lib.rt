@@ -7,6 +7,14 @@ ghost use Rattle.std.specs.shelf.Text.{sameBytes};
 ghost use Rattle.lines.specs.Front.{front, Front-number};
 ghost use Rattle.lines.specs.Words.{blank, ink, inline, bare, First-word, First-line};
 
+const SPACE: u8 = b' ';
+
+const TAB: u8 = b'\t';
+
+const RETURN: u8 = b'\r';
+
+const COMMENT: u8 = b'#';
+
 // Why a word is no number.
 #[derive(Clone, Copy, PartialEq, Debug)]
 pub enum Unread {
@@ -26,7 +34,7 @@ pub fn same(w: &[u8], v: &[u8]) -> bool
 fn is_blank(b: u8) -> bool
     ensures { λ r. ⌜ r ≡ blank b ⌝ }
 {
-    b == b' ' || b == b'\t' || b == b'\r'
+    b == SPACE || b == TAB || b == RETURN
 }
 
 fn line_len(s: &[u8]) -> usize
@@ -59,7 +67,7 @@ pub fn bare(s: &[u8]) -> &[u8]
     ensures { λ r. ⌜ now r ≡ bare (now (s .entry)) ⌝ }
 {
     for (i, b) in s.iter().enumerate() {
-        if *b == b'#' {
+        if *b == COMMENT {
             return &s[..i];
         }
     }

@@ -8,9 +8,9 @@ use Rattle.std.proofs.shelf.Sums.{leading-drop-yes, leading-drop-no, leading-dr
 use Rattle.lines.specs.Words.{plain}
 use Rattle.lines.proofs.bare.Needs as need
 
-pub returns-then-b-eq35 : need.returns-then-b-eq35
+pub returns-then-b-eq-COMMENT : need.returns-then-b-eq-COMMENT
 unfolding plain
-returns-then-b-eq35 c = let e : c .loop-i .i ≡ leading plain (c .args .s .now) = search (needs, leading-drop-no) in ap (λ n. take n (c .args .s .now)) e
+returns-then-b-eq-COMMENT c = let e : c .loop-i .i ≡ leading plain (c .args .s .now) = search (needs, leading-drop-no) in ap (λ n. take n (c .args .s .now)) e
 
 pub loop-i-again : need.loop-i-again
 unfolding plain

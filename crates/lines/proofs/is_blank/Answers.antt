@@ -2,10 +2,10 @@ use borrow.Author.Needs.{needs}
 use Rattle.lines.specs.Words.{blank}
 use Rattle.lines.proofs.is_blank.Needs as need
 
-pub returns-then-b-eq9 : need.returns-then-b-eq9
+pub returns-then-b-eq-TAB : need.returns-then-b-eq-TAB
 unfolding blank
-returns-then-b-eq9 c = search needs
+returns-then-b-eq-TAB c = search needs
 
-pub returns-else-b-eq9 : need.returns-else-b-eq9
+pub returns-else-b-eq-TAB : need.returns-else-b-eq-TAB
 unfolding blank
-returns-else-b-eq9 c = search needs
+returns-else-b-eq-TAB c = search needs
