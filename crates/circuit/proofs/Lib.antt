@@ -1,3 +1,4 @@
+pub mod Filling
 pub mod Joined
 pub mod LentLaws
 pub mod Order

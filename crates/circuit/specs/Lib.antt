@@ -1,3 +1,4 @@
+pub mod Filled
 pub mod Gate
 pub mod Circuit
 pub mod Lent

@@ -9,7 +9,7 @@ use Rattle.std.specs.declared.option.Option.the-variants.{Some, None}
 use Rattle.circuit.specs.Lent.{gate-count, register-count, signal-count}
 use Rattle.circuit.specs.Whole.{Whole, Shaped, Some-registers, Few-gates, Small, Placed, Ranged, Tied, Output-ordered}
 use Rattle.circuit.specs.declared.refusal.Refusal.{Refusal}
-use Rattle.circuit.specs.declared.refusal.Refusal.the-variants.{GateNumbers, RegisterNumbers, TimeNumbers, RegisterCount, GateCount, TooLarge, BadGate, BadDelay, BadRegister, BadOutput, NoRoom}
+use Rattle.circuit.specs.declared.refusal.Refusal.the-variants.{GateNumbers, RegisterNumbers, TimeNumbers, RegisterCount, GateCount, TooLarge, BadGate, BadDelay, BadRegister, BadOutput, NoSignal, NoRoom}
 
 -- the number of each case
 abbrev pub number-of : Refusal → ℕ
@@ -23,6 +23,7 @@ number-of (BadGate k) = 4
 number-of (BadDelay k) = 5
 number-of (BadRegister r) = 6
 number-of BadOutput = 7
+number-of (NoSignal s) = 6
 number-of (NoRoom n) = 8
 
 -- its place, counted from 0; of room that is too short the length that is needed
@@ -37,6 +38,7 @@ place-of (BadGate k) = k
 place-of (BadDelay k) = k
 place-of (BadRegister r) = r
 place-of BadOutput = 0
+place-of (NoSignal s) = s
 place-of (NoRoom n) = n
 
 module _ (gates registers times : List ℕ) where
@@ -52,6 +54,7 @@ module _ (gates registers times : List ℕ) where
   Applies (BadDelay k) = (k < gate-count gates) × (Ranged gates k → ⊥)
   Applies (BadRegister r) = (r < register-count registers) × (Tied (signal-count gates registers) registers r → ⊥)
   Applies BadOutput = Output-ordered times → ⊥
+  Applies (NoSignal s) = ⊥
   Applies (NoRoom n) = ⊥
 
 -- P holds of every number below n; or i is the first of which it does not

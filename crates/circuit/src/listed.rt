@@ -19,6 +19,7 @@ impl Refusal {
             Refusal::BadDelay(_) => 5,
             Refusal::BadRegister(_) => 6,
             Refusal::BadOutput => 7,
+            Refusal::NoSignal(_) => 6,
             Refusal::NoRoom(_) => 8,
         }
     }
@@ -38,6 +39,7 @@ impl Refusal {
             Refusal::BadDelay(k) => k,
             Refusal::BadRegister(r) => r,
             Refusal::BadOutput => 0,
+            Refusal::NoSignal(s) => s,
             Refusal::NoRoom(n) => n,
         }
     }

@@ -22,6 +22,8 @@ pub enum Refusal {
     BadRegister(usize),
     // The earliest output time is above the latest.
     BadOutput,
+    // This signal, which was asked for, is past the circuit.
+    NoSignal(usize),
     // Lent room is too short: it needs this length.
     NoRoom(usize),
 }

@@ -1,6 +1,6 @@
 -- Cycles of the drawing, one after the other.
 use mathlib.Core.Path.{_≡_, refl, sym, ap, _∙_}
-use mathlib.Core.Bool.{Bool}
+use mathlib.Core.Bool.{Bool, false}
 use mathlib.Core.List.{List}
 use mathlib.Core.Logic.{inl, inr}
 use Prim.Native.Nat.{ℕ, suc, _+_, _-_, _≤_, _<_}
@@ -11,7 +11,8 @@ use Rattle.circuit.specs.Circuit.{Sound}
 use Rattle.circuit.specs.Lent.{gate-count, register-count, signal-count, drawn, takes}
 use Rattle.circuit.proofs.LentLaws.{gates-in-length}
 use Rattle.drawing.specs.Drawing.{ideal, held}
-use Rattle.drawing.specs.Lent.{bit-at, Filled, Cycled}
+use Rattle.circuit.specs.Filled.{Filled}
+use Rattle.drawing.specs.Lent.{bit-at, Cycled}
 use Rattle.drawing.proofs.IdealLaws.{ideal-agrees}
 
 module _ (g rs : List ℕ) (sound : Sound (drawn g rs)) (taken : (r : ℕ) → r < register-count rs → takes rs r < signal-count g rs) where
@@ -23,15 +24,15 @@ module _ (g rs : List ℕ) (sound : Sound (drawn g rs)) (taken : (r : ℕ) → r
   agree a b same k h = ideal-agrees (drawn g rs) sound a b same k (omega (arith, gates-in-length g))
 
   -- the bits shown, the gates settled, the signals taken
-  module _ (b s₀ s₁ s₂ b′ : List Bool) (shown : Filled (register-count rs) (bit-at b) s₀ s₁) (drawn-on : Filled (signal-count g rs) (settled s₁) s₁ s₂)
-      (at-once : Filled (register-count rs) (λ r. bit-at s₂ (takes rs r)) b b′) where
-    pub cycle-settled : Filled (signal-count g rs) (settled b) s₀ s₂
+  module _ (b s₀ s₁ s₂ b′ : List Bool) (shown : Filled false (register-count rs) (bit-at b) s₀ s₁) (drawn-on : Filled false (signal-count g rs) (settled s₁) s₁ s₂)
+      (at-once : Filled false (register-count rs) (λ r. bit-at s₂ (takes rs r)) b b′) where
+    pub cycle-settled : Filled false (signal-count g rs) (settled b) s₀ s₂
     cycle-settled = record {
       filled = λ k h. drawn-on .filled k h ∙ agree (bit-at s₁) (bit-at b) (shown .filled) k h;
       rest = λ k h. drawn-on .rest k h ∙ shown .rest k (omega arith);
     }
 
-    pub cycle-taken : Filled (register-count rs) (λ r. settled b (takes rs r)) b b′
+    pub cycle-taken : Filled false (register-count rs) (λ r. settled b (takes rs r)) b b′
     cycle-taken = record {
       filled = λ r h. at-once .filled r h ∙ cycle-settled .filled (takes rs r) (taken r h);
       rest = at-once .rest;
@@ -41,8 +42,8 @@ module _ (g rs : List ℕ) (sound : Sound (drawn g rs)) (taken : (r : ℕ) → r
   unfolding held
   no-cycle b s = record { bits-held = record { filled = λ k h. refl; rest = λ k h. refl }; none = λ e. refl; some = λ h. absurd (omega arith) }
 
-  pub one-more-cycle : (n : ℕ) (b b₁ b₂ s s₁ s₂ : List Bool) → Cycled g rs n b b₁ s s₁ → Filled (signal-count g rs) (settled b₁) s₁ s₂ →
-      Filled (register-count rs) (λ r. settled b₁ (takes rs r)) b₁ b₂ → Cycled g rs (n + 1) b b₂ s s₂
+  pub one-more-cycle : (n : ℕ) (b b₁ b₂ s s₁ s₂ : List Bool) → Cycled g rs n b b₁ s s₁ → Filled false (signal-count g rs) (settled b₁) s₁ s₂ →
+      Filled false (register-count rs) (λ r. settled b₁ (takes rs r)) b₁ b₂ → Cycled g rs (n + 1) b b₂ s s₂
   unfolding held
   one-more-cycle n b b₁ b₂ s s₁ s₂ sofar signals bits =
       let now : ℕ → Bool = held (drawn g rs) (takes rs) (bit-at b) n in

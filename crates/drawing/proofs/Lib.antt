@@ -1,4 +1,3 @@
 pub mod Cycling
-pub mod Filling
 pub mod IdealLaws
 pub mod Settling

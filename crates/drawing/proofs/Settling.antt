@@ -1,6 +1,6 @@
 -- One turn of the loop that goes through the gates, handing on the part from the next gate on.
 use mathlib.Core.Path.{_≡_, refl, sym, ap, _∙_}
-use mathlib.Core.Bool.{Bool}
+use mathlib.Core.Bool.{Bool, false}
 use mathlib.Core.List.{List}
 use Prim.Native.Nat.{ℕ, _+_, _-_, _*_, _%_, _≤_, _<_}
 use native.Mathlib.Omega.{arith}
@@ -11,8 +11,9 @@ use Rattle.circuit.specs.Circuit.{Sound}
 use Rattle.circuit.specs.Lent.{gate-count, circuit-in}
 use Rattle.circuit.proofs.LentLaws.{inputs-before}
 use Rattle.drawing.specs.Drawing.{ideal}
-use Rattle.drawing.specs.Lent.{bit-at, Filled}
-use Rattle.drawing.proofs.Filling.{filled-more}
+use Rattle.circuit.specs.Filled.{Filled}
+use Rattle.drawing.specs.Lent.{bit-at}
+use Rattle.circuit.proofs.Filling.{filled-more}
 use Rattle.drawing.proofs.IdealLaws.{ideal-in, ideal-lent}
 
 -- the signals below `at` are settled, and `rest` has the gates from `at` on
@@ -20,7 +21,7 @@ pub record Sofar (n : ℕ) (gates : List ℕ) (before : List Bool) (at : ℕ) (r
   pub from : n ≤ at
   pub within : at ≤ n + gate-count gates
   pub rest-is : rest ≡ drop (7 * (at - n)) gates
-  pub filled : Filled at (ideal (circuit-in n gates) (bit-at before)) before after
+  pub filled : Filled false at (ideal (circuit-in n gates) (bit-at before)) before after
 
 module _ (n : ℕ) (gates : List ℕ) (sound : Sound (circuit-in n gates)) (before : List Bool) where
   pub none-yet : Sofar n gates before n gates before

@@ -5,6 +5,7 @@ use mathlib.Core.List.{List}
 use mathlib.Core.Logic.{_⊎_}
 use Prim.Native.Nat.{ℕ, _-_, _≤_, _<_}
 use lib.ListN.{length, getD}
+use Rattle.circuit.specs.Filled.{Filled}
 use Rattle.circuit.specs.Lent.{register-count, signal-count, drawn, takes}
 use Rattle.circuit.specs.declared.refusal.Refusal.{Refusal}
 use Rattle.circuit.specs.declared.refusal.Refusal.the-variants.{NoRoom}
@@ -13,11 +14,6 @@ use Rattle.drawing.specs.Drawing.{ideal, held}
 -- the bits of a list, 0 past its end
 abbrev pub bit-at : List Bool → ℕ → Bool
 bit-at xs i = getD xs i false
-
--- `after` has the values f at its first n places, and is as `before` was at the others
-pub record Filled (n : ℕ) (f : ℕ → Bool) (before after : List Bool) : Type 0 where
-  pub filled : (k : ℕ) → k < n → bit-at after k ≡ f k
-  pub rest : (k : ℕ) → n ≤ k → bit-at after k ≡ bit-at before k
 
 -- room of fewer than n places is refused by the length that is needed, and left as it was
 abbrev pub No-room : ℕ → (before after : List Bool) → Refusal → Type 0
@@ -29,6 +25,6 @@ No-rooms n m bits signals e = ((length bits < n) × (e ≡ NoRoom n)) ⊎ ((n �
 
 -- n cycles later, from the bits `before`: the registers hold the drawing's bits, and the signals are those of the last cycle
 pub record Cycled (gates registers : List ℕ) (n : ℕ) (before after signals-before signals-after : List Bool) : Type 0 where
-  pub bits-held : Filled (register-count registers) (held (drawn gates registers) (takes registers) (bit-at before) n) before after
+  pub bits-held : Filled false (register-count registers) (held (drawn gates registers) (takes registers) (bit-at before) n) before after
   pub none : n ≡ 0 → signals-after ≡ signals-before
-  pub some : 0 < n → Filled (signal-count gates registers) (ideal (drawn gates registers) (held (drawn gates registers) (takes registers) (bit-at before) (n - 1))) signals-before signals-after
+  pub some : 0 < n → Filled false (signal-count gates registers) (ideal (drawn gates registers) (held (drawn gates registers) (takes registers) (bit-at before) (n - 1))) signals-before signals-after

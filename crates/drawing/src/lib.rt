@@ -4,11 +4,12 @@ ghost use mathlib.Core.Bool.{false};
 ghost use Prim.Native.Nat.{ℕ, _+_, _*_, _/_, _%_, _<_, _≤_};
 ghost use lib.ListN.{length, getD};
 ghost use Rattle.std.specs.Results.{Cases};
+ghost use Rattle.circuit.specs.Filled.{Filled};
 ghost use Rattle.circuit.specs.Gate.{output};
 ghost use Rattle.circuit.specs.Circuit.{signals, Sound};
 ghost use Rattle.circuit.specs.Lent.{gate-count, register-count, signal-count, circuit-in, drawn, takes};
 ghost use Rattle.drawing.specs.Drawing.{ideal, held, Ideal-is-settled};
-ghost use Rattle.drawing.specs.Lent.{bit-at, Cycled, Filled, No-room, No-rooms};
+ghost use Rattle.drawing.specs.Lent.{bit-at, Cycled, No-room, No-rooms};
 use circuit::Circuit;
 use circuit::Refusal;
 use circuit::table;
@@ -31,7 +32,7 @@ fn settle_gates(gates: &[u32], n: usize, signals: &mut [bool])
     requires whole { ⌜ length (now gates) % 7 ≡ 0 ⌝ }
     requires sound { ⌜ Sound (circuit-in n (now gates)) ⌝ }
     requires room { ⌜ n + gate-count (now gates) ≤ length (now signals) ⌝ }
-    ensures { λ _. ⌜ Filled (n + gate-count (now (gates .entry))) (ideal (circuit-in n (now (gates .entry))) (bit-at (now (signals .entry)))) (now (signals .entry)) (now (signals .exit)) ⌝ }
+    ensures { λ _. ⌜ Filled false (n + gate-count (now (gates .entry))) (ideal (circuit-in n (now (gates .entry))) (bit-at (now (signals .entry)))) (now (signals .entry)) (now (signals .exit)) ⌝ }
 {
     let mut rest = gates;
     let mut at = n;
@@ -46,7 +47,7 @@ fn settle_gates(gates: &[u32], n: usize, signals: &mut [bool])
 // places than there are signals is refused.
 pub fn settle(circuit: Circuit<'_>, signals: &mut [bool]) -> Result<(), Refusal>
     ensures { λ r. ⌜ Cases r
-        (λ _. Filled (signal-count (now (circuit .entry .gates)) (now (circuit .entry .registers))) (ideal (drawn (now (circuit .entry .gates)) (now (circuit .entry .registers))) (bit-at (now (signals .entry)))) (now (signals .entry)) (now (signals .exit)))
+        (λ _. Filled false (signal-count (now (circuit .entry .gates)) (now (circuit .entry .registers))) (ideal (drawn (now (circuit .entry .gates)) (now (circuit .entry .registers))) (bit-at (now (signals .entry)))) (now (signals .entry)) (now (signals .exit)))
         (λ e. No-room (signal-count (now (circuit .entry .gates)) (now (circuit .entry .registers))) (now (signals .entry)) (now (signals .exit)) e) ⌝ }
 {
     let n = circuit.registers.len() / 3;
@@ -62,7 +63,7 @@ pub fn settle(circuit: Circuit<'_>, signals: &mut [bool]) -> Result<(), Refusal>
 fn show(bits: &[bool], n: usize, signals: &mut [bool])
     requires bits { ⌜ n ≤ length (now bits) ⌝ }
     requires signals { ⌜ n ≤ length (now signals) ⌝ }
-    ensures { λ _. ⌜ Filled n (bit-at (now (bits .entry))) (now (signals .entry)) (now (signals .exit)) ⌝ }
+    ensures { λ _. ⌜ Filled false n (bit-at (now (bits .entry))) (now (signals .entry)) (now (signals .exit)) ⌝ }
 {
     for r in 0..n {
         signals[r] = bits[r];
@@ -74,7 +75,7 @@ fn take(registers: &[u32], signals: &[bool], bits: &mut [bool])
     requires whole { ⌜ length (now registers) % 3 ≡ 0 ⌝ }
     requires room { ⌜ register-count (now registers) ≤ length (now bits) ⌝ }
     requires within { ⌜ ((r : ℕ) → r < register-count (now registers) → takes (now registers) r < length (now signals)) ⌝ }
-    ensures { λ _. ⌜ Filled (register-count (now (registers .entry))) (λ r. bit-at (now (signals .entry)) (takes (now (registers .entry)) r)) (now (bits .entry)) (now (bits .exit)) ⌝ }
+    ensures { λ _. ⌜ Filled false (register-count (now (registers .entry))) (λ r. bit-at (now (signals .entry)) (takes (now (registers .entry)) r)) (now (bits .entry)) (now (bits .exit)) ⌝ }
 {
     for r in 0..registers.len() / 3 {
         bits[r] = signals[registers[3 * r] as usize];
@@ -85,8 +86,8 @@ fn take(registers: &[u32], signals: &[bool], bits: &mut [bool])
 fn one_cycle(circuit: Circuit<'_>, bits: &mut [bool], signals: &mut [bool])
     requires bits { ⌜ register-count (now (circuit .registers)) ≤ length (now bits) ⌝ }
     requires signals { ⌜ signal-count (now (circuit .gates)) (now (circuit .registers)) ≤ length (now signals) ⌝ }
-    ensures settled { λ _. ⌜ Filled (signal-count (now (circuit .entry .gates)) (now (circuit .entry .registers))) (ideal (drawn (now (circuit .entry .gates)) (now (circuit .entry .registers))) (bit-at (now (bits .entry)))) (now (signals .entry)) (now (signals .exit)) ⌝ }
-    ensures taken { λ _. ⌜ Filled (register-count (now (circuit .entry .registers))) (λ r. ideal (drawn (now (circuit .entry .gates)) (now (circuit .entry .registers))) (bit-at (now (bits .entry))) (takes (now (circuit .entry .registers)) r)) (now (bits .entry)) (now (bits .exit)) ⌝ }
+    ensures settled { λ _. ⌜ Filled false (signal-count (now (circuit .entry .gates)) (now (circuit .entry .registers))) (ideal (drawn (now (circuit .entry .gates)) (now (circuit .entry .registers))) (bit-at (now (bits .entry)))) (now (signals .entry)) (now (signals .exit)) ⌝ }
+    ensures taken { λ _. ⌜ Filled false (register-count (now (circuit .entry .registers))) (λ r. ideal (drawn (now (circuit .entry .gates)) (now (circuit .entry .registers))) (bit-at (now (bits .entry))) (takes (now (circuit .entry .registers)) r)) (now (bits .entry)) (now (bits .exit)) ⌝ }
 {
     let n = circuit.registers.len() / 3;
     show(bits, n, signals);

@@ -79,6 +79,7 @@ pub impl fmt::Display for Detail as DetailDisplay {
                 "register {r}: early time {a} is above its late time {b}"
             ),
             Detail::Output(a, b) => write!(f, "earliest output time {a} is above the latest {b}"),
+            Detail::Asked(s) => write!(f, "signal {s} is past the circuit"),
             Detail::Room(n) => write!(f, "room for {n} is needed"),
         }
     }

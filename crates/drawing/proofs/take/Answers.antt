@@ -1,7 +1,7 @@
 use borrow.Author.Needs.{needs}
 use mathlib.Core.Path.{refl}
 use native.Mathlib.Omega.{arith}
-use Rattle.drawing.proofs.Filling.{filled-more}
+use Rattle.circuit.proofs.Filling.{filled-more}
 use Rattle.drawing.proofs.take.Needs as need
 
 pub loop-r-again : need.loop-r-again

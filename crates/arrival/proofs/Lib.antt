@@ -1,0 +1,3 @@
+pub mod ArrivalLaws
+pub mod Turns
+pub mod WindowLemma

@@ -1,0 +1,63 @@
+-- One turn of the loop that fills in times, and that no time is too large.
+use mathlib.Core.Path.{_≡_, refl, ap, sym, _∙_}
+use mathlib.Core.Bool.{true, false}
+use mathlib.Core.List.{List}
+use mathlib.Core.Logic.{inl, inr}
+use Prim.Native.Nat.{ℕ, suc, _+_, _-_, _*_, _^_, _≤_, _<_, max, min}
+use native.Mathlib.Omega.{arith}
+use lib.ListN.{length, getD, set}
+use Rattle.circuit.specs.Gate.{Gate}
+use Rattle.circuit.specs.Circuit.{gate, Sound}
+use Rattle.circuit.specs.Filled.{Filled}
+use Rattle.circuit.specs.Lent.{gate-count, gate-in, circuit-in}
+use Rattle.circuit.proofs.Filling.{filled-more}
+use Rattle.circuit.proofs.LentLaws.{gates-in-length, gates-in-at, inputs-before}
+use Rattle.circuit.proofs.Signals.{each-signal}
+use Rattle.arrival.specs.declared.edge.Edge.{Edge}
+use Rattle.arrival.specs.declared.edge.Edge.the-variants.{Late, Early}
+use Rattle.arrival.specs.Arrival.{delay, choose, arrival}
+use Rattle.arrival.proofs.ArrivalLaws.{arrival-in, arrival-at}
+
+-- the equation of a gate's time, over the numbers that are lent
+pub arrival-lent : (e : Edge) (n : ℕ) (gates : List ℕ) → Sound (circuit-in n gates) → (s : ℕ → ℕ) (k : ℕ) → k < gate-count gates →
+    arrival e (circuit-in n gates) s (n + k)
+    ≡ choose e (arrival e (circuit-in n gates) s (getD gates (7 * k) 0) + delay e false (gate-in gates k)) (arrival e (circuit-in n gates) s (getD gates (7 * k + 1) 0) + delay e true (gate-in gates k))
+arrival-lent e n gates sound s k h = rw (gates-in-at gates k h) at (arrival-at e (circuit-in n gates) sound s k (omega (arith, gates-in-length gates)))
+
+-- a gate adds at most the largest number to the later of its inputs' times
+adds-little : (e : Edge) (gates : List ℕ) (k a b : ℕ) → ((i : ℕ) → getD gates i 0 ≤ 1000000) → choose e (a + delay e false (gate-in gates k)) (b + delay e true (gate-in gates k)) ≤ max a b + 1000000
+adds-little Late gates k a b small = omega (arith, small (7 * k + 4), small (7 * k + 6))
+adds-little Early gates k a b small = omega (arith, small (7 * k + 3), small (7 * k + 5))
+
+module _ (e : Edge) (n : ℕ) (gates : List ℕ) (few : gate-count gates ≤ 16384) (small : (i : ℕ) → getD gates i 0 ≤ 1000000) (sound : Sound (circuit-in n gates))
+    (before : List ℕ) (sources : (i : ℕ) → i < n → getD before i 0 ≤ 2 ^ 63) where
+  abbrev times : ℕ → ℕ
+  times = arrival e (circuit-in n gates) (λ i. getD before i 0)
+
+  pub bounded : (k : ℕ) → k < n + gate-count gates → times k ≤ 2 ^ 63 + 1000000 * (k + 1 - n)
+  bounded k h = each-signal (circuit-in n gates) sound (λ k. times k ≤ 2 ^ 63 + 1000000 * (k + 1 - n))
+      (λ i h. omega (arith, arrival-in e (circuit-in n gates) sound (λ i. getD before i 0) i h, sources i h))
+      (λ k h p q.
+          let l : k < gate-count gates = omega (arith, gates-in-length gates) in
+          let b = inputs-before n gates sound k l in
+          let p′ = rw (gates-in-at gates k l) at p in
+          let q′ = rw (gates-in-at gates k l) at q in
+          omega (arith, arrival-lent e n gates sound (λ i. getD before i 0) k l, adds-little e gates k (times (getD gates (7 * k) 0)) (times (getD gates (7 * k + 1) 0)) small))
+      k (omega (arith, gates-in-length gates))
+
+  pub start : Filled 0 (n + 0) times before before
+  start = record { filled = λ k h. sym (arrival-in e (circuit-in n gates) sound (λ i. getD before i 0) k (omega arith)); rest = λ k h. refl }
+
+  module _ (k : ℕ) (h : k < gate-count gates) (now : List ℕ) (sofar : Filled 0 (n + k) times before now) where
+    pub ready : (getD now (getD gates (7 * k) 0) 0 < 2 ^ 64 - 2 ^ 32) × (getD now (getD gates (7 * k + 1) 0) 0 < 2 ^ 64 - 2 ^ 32)
+    ready =
+        let b = inputs-before n gates sound k h in
+        (omega (arith, sofar .filled _ (b .0), bounded (getD gates (7 * k) 0) (omega arith)),
+         omega (arith, sofar .filled _ (b .1), bounded (getD gates (7 * k + 1) 0) (omega arith)))
+
+    pub turn : (v : ℕ) → n + k < length now → v ≡ choose e (getD now (getD gates (7 * k) 0) 0 + delay e false (gate-in gates k)) (getD now (getD gates (7 * k + 1) 0) 0 + delay e true (gate-in gates k)) →
+        Filled 0 (n + (k + 1)) times before (set now (n + k) v)
+    turn v room is =
+        let b = inputs-before n gates sound k h in
+        let a : n + k + 1 ≡ n + (k + 1) = omega arith in
+        rw a at (filled-more sofar v room (is ∙ rw (sofar .filled _ (b .0), sofar .filled _ (b .1)) (sym (arrival-lent e n gates sound (λ i. getD before i 0) k h))))

@@ -1,0 +1,5 @@
+use Rattle.arrival.proofs.ArrivalLaws as laws
+use Rattle.arrival.proofs.monotone.Needs as need
+
+pub returns : need.returns
+returns c = laws.monotone
