@@ -9,14 +9,15 @@ use lib.ListN.{length, getD, set}
 use Rattle.circuit.specs.Gate.{Gate}
 use Rattle.circuit.specs.Circuit.{gate, Sound}
 use Rattle.circuit.specs.Filled.{Filled}
-use Rattle.circuit.specs.Lent.{gate-count, gate-in, circuit-in}
+use Rattle.circuit.specs.Lent.{gate-count, register-count, signal-count, gate-in, circuit-in, drawn}
 use Rattle.circuit.proofs.Filling.{filled-more}
 use Rattle.circuit.proofs.LentLaws.{gates-in-length, gates-in-at, inputs-before}
 use Rattle.circuit.proofs.Signals.{each-signal}
 use Rattle.arrival.specs.declared.edge.Edge.{Edge}
 use Rattle.arrival.specs.declared.edge.Edge.the-variants.{Late, Early}
 use Rattle.arrival.specs.Arrival.{delay, choose, arrival}
-use Rattle.arrival.proofs.ArrivalLaws.{arrival-in, arrival-at}
+use Rattle.arrival.specs.Lent.{source, Over-sources, Over-registers}
+use Rattle.arrival.proofs.ArrivalLaws.{arrival-in, arrival-at, agrees}
 
 -- the equation of a gate's time, over the numbers that are lent
 pub arrival-lent : (e : Edge) (n : ℕ) (gates : List ℕ) → Sound (circuit-in n gates) → (s : ℕ → ℕ) (k : ℕ) → k < gate-count gates →
@@ -61,3 +62,16 @@ module _ (e : Edge) (n : ℕ) (gates : List ℕ) (few : gate-count gates ≤ 163
         let b = inputs-before n gates sound k h in
         let a : n + k + 1 ≡ n + (k + 1) = omega arith in
         rw a at (filled-more sofar v room (is ∙ rw (sofar .filled _ (b .0), sofar .filled _ (b .1)) (sym (arrival-lent e n gates sound (λ i. getD before i 0) k h))))
+
+-- over the registers' own times: first those, then the gates'
+pub over-registers : (e : Edge) (gates registers times before mid after : List ℕ) → Sound (drawn gates registers) →
+    Filled 0 (register-count registers) (source e registers times) before mid → Over-sources e (register-count registers) gates mid after → Over-registers e gates registers times before after
+over-registers e gates registers times before mid after sound first then = record {
+  filled = λ k h. then .filled k h ∙ agrees e (drawn gates registers) (λ i. getD mid i 0) (source e registers times) sound (first .filled) k (omega (arith, gates-in-length gates));
+  rest = λ k h. then .rest k h ∙ first .rest k (omega arith);
+}
+
+-- no register's time is too large
+pub small-source : (e : Edge) (registers times : List ℕ) (r : ℕ) → ((i : ℕ) → getD registers i 0 ≤ 1000000) → ((i : ℕ) → getD times i 0 ≤ 1000000) → source e registers times r ≤ 2 ^ 63
+small-source Late registers times r small-r small-t = omega (arith, small-r (3 * r + 2), small-t 2)
+small-source Early registers times r small-r small-t = omega (arith, small-r (3 * r + 1), small-t 1)

@@ -4,10 +4,12 @@ use mathlib.Core.List.{List}
 use mathlib.Core.Logic.{_⊎_}
 use Prim.Native.Nat.{ℕ, _+_, _-_, _^_, _≤_, _<_}
 use lib.ListN.{length, getD}
+use Rattle.std.specs.declared.option.Option.the-variants.{Some, None}
 use Rattle.circuit.specs.Filled.{Filled}
 use Rattle.circuit.specs.Lent.{gate-count, register-count, signal-count, circuit-in, drawn, early, late, output-early, output-late}
+use Rattle.circuit.specs.Refused.{All-or-first}
 use Rattle.circuit.specs.declared.refusal.Refusal.{Refusal}
-use Rattle.circuit.specs.declared.refusal.Refusal.the-variants.{NoRoom, TooLarge, NoSignal}
+use Rattle.circuit.specs.declared.refusal.Refusal.the-variants.{NoRoom, TooLarge}
 use Rattle.arrival.specs.declared.edge.Edge.{Edge}
 use Rattle.arrival.specs.declared.edge.Edge.the-variants.{Late, Early}
 use Rattle.arrival.specs.Arrival.{arrival}
@@ -33,16 +35,21 @@ Over-registers e gates registers times before after = Filled 0 (signal-count gat
 abbrev pub largest-source : ℕ
 largest-source = 2 ^ 63
 
--- why room for latest and earliest times over sources is refused: too short for the signals; too short beside the other;
--- a source's time that is too large, by its index in the latest times and then the earliest
+abbrev pub Small-source : List ℕ → ℕ → Type 0
+Small-source times i = getD times i 0 ≤ largest-source
+
+-- why room for latest and earliest times over sources is refused: too short for the signals; shorter than the other;
+-- a source's latest time that is too large, else an earliest one, by its first index
 abbrev pub Sources-refused : (gates registers latest earliest : List ℕ) → Refusal → Type 0
 Sources-refused gates registers latest earliest e =
     ((length latest < signal-count gates registers) × (e ≡ NoRoom (signal-count gates registers)))
     ⊎ (((signal-count gates registers ≤ length latest) × (length earliest < length latest) × (e ≡ NoRoom (length latest)))
     ⊎ ((signal-count gates registers ≤ length latest) × (length latest ≤ length earliest)
-       × ((i : ℕ) × (i < length latest - gate-count gates) × (e ≡ TooLarge i) × ((largest-source < getD latest i 0) ⊎ (largest-source < getD earliest i 0)))))
+       × ((i : ℕ) × (e ≡ TooLarge i)
+         × (All-or-first (Small-source latest) (length latest - gate-count gates) (Some i)
+           ⊎ (All-or-first (Small-source latest) (length latest - gate-count gates) None × All-or-first (Small-source earliest) (length latest - gate-count gates) (Some i))))))
 
--- why room for the times of a circuit's signals is refused
+-- room for the times of a circuit's signals that is too short is refused by the length that is needed
 abbrev pub Times-refused : (gates registers latest earliest : List ℕ) → Refusal → Type 0
 Times-refused gates registers latest earliest e =
     ((length latest < signal-count gates registers) ⊎ (length earliest < signal-count gates registers)) × (e ≡ NoRoom (signal-count gates registers))

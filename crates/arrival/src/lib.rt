@@ -3,9 +3,12 @@ ghost use Rattle.arrival.specs.Arrival.{Monotone, Shifts, Agrees};
 ghost use Rattle.arrival.specs.Window.{Window};
 
 mod edge;
-mod fill;
+mod filling;
 
 pub use edge::Edge;
+pub use filling::LARGEST_SOURCE;
+pub use filling::arrivals;
+pub use filling::fill;
 
 // The window lemma.
 pub fn window() -> u8

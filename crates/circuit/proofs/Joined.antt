@@ -73,3 +73,20 @@ module _ (g r t : List ℕ) where
 -- the first number of the row that is not small is the reason, where the counts are right
 pub first-large : (g r t : List ℕ) (p : ℕ) → Met-up-to g r t 2 → 1000000 < getD (g ++ (r ++ t)) p 0 → ((q : ℕ) → q < p → Small g r t q) → First-refusal g r t (TooLarge p)
 first-large g r t p met large before = let w : Small g r t p → ⊥ = λ s. omega arith in search needs
+
+-- what is small in the row is so in each part
+module _ (g r t : List ℕ) (small : (p : ℕ) → Small g r t p) where
+  pub small-gates : (i : ℕ) → getD g i 0 ≤ 1000000
+  small-gates i = elim (cases-lt i (length g)) [
+      inl h ↦ omega (arith, small i, in-gates g r t i h)
+    | inr h ↦ omega (arith, getD-past g i 0 h)
+    ]
+
+  pub small-registers : (i : ℕ) → getD r i 0 ≤ 1000000
+  small-registers i = elim (cases-lt i (length r)) [
+      inl h ↦ omega (arith, small (length g + i), in-registers g r t i h)
+    | inr h ↦ omega (arith, getD-past r i 0 h)
+    ]
+
+  pub small-times : (i : ℕ) → getD t i 0 ≤ 1000000
+  small-times i = omega (arith, small (length g + length r + i), in-times g r t i)

@@ -1,7 +1,7 @@
 -- The circuit of numbers that are lent.
 use mathlib.Core.Path.{_≡_}
 use mathlib.Core.List.{List}
-use Prim.Native.Nat.{ℕ, _+_, _*_, _<_}
+use Prim.Native.Nat.{ℕ, _+_, _*_, _≤_, _<_}
 use native.Mathlib.Omega.{arith}
 use lib.ListN.{length, getD}
 use Rattle.std.proofs.shelf.Counted.{length-map-counting, getD-map-counting}
@@ -32,3 +32,8 @@ sound-in n gates placed ranged = record {
 -- a gate's inputs come before it
 pub inputs-before : (n : ℕ) (gates : List ℕ) → Sound (circuit-in n gates) → (k : ℕ) → k < gate-count gates → (getD gates (7 * k) 0 < n + k) × (getD gates (7 * k + 1) 0 < n + k)
 inputs-before n gates sound k h = rw (gates-in-at gates k h) at (sound .before k (omega (arith, gates-in-length gates)))
+
+-- and over more sources
+pub sound-over : (m n : ℕ) (gates : List ℕ) → m ≤ n → ((k : ℕ) → k < gate-count gates → Placed m gates k) → ((k : ℕ) → k < gate-count gates → Ranged gates k) → Sound (circuit-in n gates)
+sound-over m n gates le placed ranged =
+    sound-in n gates (λ k h. let p = placed k h in (omega (arith, p .0), omega (arith, p .1), p .2)) ranged

@@ -3,7 +3,7 @@ use native.Mathlib.Omega.{arith}
 use Rattle.circuit.proofs.LentLaws.{inputs-before}
 use Rattle.arrival.specs.declared.edge.Edge.the-variants.{Late, Early}
 use Rattle.arrival.proofs.Turns.{start, ready, turn}
-use Rattle.arrival.proofs.fill.fill_gates.Needs as need
+use Rattle.arrival.proofs.filling.fill_gates.Needs as need
 
 pub loop-k-holds : need.loop-k-holds
 loop-k-holds c =

@@ -4,7 +4,7 @@ use Rattle.circuit.specs.Filled.{Filled}
 use Rattle.circuit.specs.Lent.{circuit-in}
 use Rattle.arrival.specs.Arrival.{arrival}
 use Rattle.arrival.specs.declared.edge.Edge.the-variants.{Late, Early}
-use Rattle.arrival.proofs.fill.fill_gates.Given as given
+use Rattle.arrival.proofs.filling.fill_gates.Given as given
 
 abbrev pub Inv-loop-k : given.InvT-loop-k
 Inv-loop-k l =
