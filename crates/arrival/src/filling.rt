@@ -110,7 +110,7 @@ fn fill_registers(circuit: Circuit<'_>, latest: &mut [u64], earliest: &mut [u64]
 }
 
 // The latest and the earliest time of every signal of a circuit, from its cycle's beginning.
-pub fn arrivals(circuit: Circuit<'_>, latest: &mut [u64], earliest: &mut [u64]) -> Result<(), Refusal>
+pub fn fill_from_registers(circuit: Circuit<'_>, latest: &mut [u64], earliest: &mut [u64]) -> Result<(), Refusal>
     ensures { λ r. ⌜ Cases r
         (λ _. Over-registers Late (now (circuit .entry .gates)) (now (circuit .entry .registers)) (now (circuit .entry .times)) (now (latest .entry)) (now (latest .exit))
             × Over-registers Early (now (circuit .entry .gates)) (now (circuit .entry .registers)) (now (circuit .entry .times)) (now (earliest .entry)) (now (earliest .exit)))

@@ -4,11 +4,15 @@ ghost use Rattle.arrival.specs.Window.{Window};
 
 mod edge;
 mod filling;
+mod timed;
+mod times;
 
 pub use edge::Edge;
 pub use filling::LARGEST_SOURCE;
-pub use filling::arrivals;
 pub use filling::fill;
+pub use filling::fill_from_registers;
+pub use timed::Arrivals;
+pub use times::Times;
 
 // The window lemma.
 pub fn window() -> u8

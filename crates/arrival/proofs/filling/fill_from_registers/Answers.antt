@@ -4,7 +4,7 @@ use Rattle.circuit.proofs.Joined.{small-gates, small-registers, small-times}
 use Rattle.circuit.proofs.LentLaws.{sound-in}
 use Rattle.arrival.specs.declared.edge.Edge.the-variants.{Late, Early}
 use Rattle.arrival.proofs.Turns.{over-registers, small-source}
-use Rattle.arrival.proofs.filling.arrivals.Needs as need
+use Rattle.arrival.proofs.filling.fill_from_registers.Needs as need
 
 pub fill-gates-requires : need.fill-gates-requires
 fill-gates-requires c κs =
