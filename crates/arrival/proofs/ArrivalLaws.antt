@@ -31,11 +31,11 @@ pub monotone : Monotone
 monotone e new old s u sound-new sound-old v sources = each-signal old sound-old (λ k. No-worse e (arrival e new s k) (arrival e old u k))
     (λ i h. let j : i < new .inputs = omega (arith, v .inputs-same) in rw (arrival-in e new sound-new s i j, arrival-in e old sound-old u i h) (sources i h))
     (λ k h p q.
-        let w = v .gates-within k h in
-        let j : old .inputs + k ≡ new .inputs + k = omega (arith, v .inputs-same) in
-        let l : k < length (new .gates) = omega (arith, v .gates-same) in
-        rw (ap (arrival e new s) j ∙ arrival-at e new sound-new s k l, arrival-at e old sound-old u k h, w .one-same, w .two-same)
-          (gate-monotone e (gate new k) (gate old k) _ _ _ _ w p q))
+    let w = v .gates-within k h in
+    let j : old .inputs + k ≡ new .inputs + k = omega (arith, v .inputs-same) in
+    let l : k < length (new .gates) = omega (arith, v .gates-same) in
+    rw (ap (arrival e new s) j ∙ arrival-at e new sound-new s k l, arrival-at e old sound-old u k h, w .one-same, w .two-same)
+    (gate-monotone e (gate new k) (gate old k) _ _ _ _ w p q))
 
 gate-shifts : (e : Edge) (a x y d f : ℕ) → choose e (a + x + d) (a + y + f) ≡ a + choose e (x + d) (y + f)
 gate-shifts Late a x y d f = omega arith

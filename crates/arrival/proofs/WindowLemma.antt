@@ -19,7 +19,7 @@ window c w b L E sound moves shown k t h a z = all-along k h t a z
     all-along = each-signal c sound (λ k. (t : ℕ) → latest c L k ≤ t → t < earliest c E k → w k t ≡ ideal c b k)
         (λ i h t a z. shown i t h (rw (arrival-in Late c sound L i h) at a) (rw (arrival-in Early c sound E i h) at z) ∙ sym (ideal-in c sound b i h))
         (λ k h p q t a z.
-            let a′ = rw (arrival-at Late c sound L k h) at a in
-            let z′ = rw (arrival-at Early c sound E k h) at z in
-            let f = moves k t h (omega arith) (omega arith) in
-            f .is ∙ ap₂ (output (gate c k .table)) (p _ (omega arith) (omega arith)) (q _ (omega arith) (omega arith)) ∙ sym (ideal-at c sound b k h))
+        let a′ = rw (arrival-at Late c sound L k h) at a in
+        let z′ = rw (arrival-at Early c sound E k h) at z in
+        let f = moves k t h (omega arith) (omega arith) in
+        f .is ∙ ap₂ (output (gate c k .table)) (p _ (omega arith) (omega arith)) (q _ (omega arith) (omega arith)) ∙ sym (ideal-at c sound b k h))

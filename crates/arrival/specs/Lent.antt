@@ -45,9 +45,9 @@ Sources-refused gates registers latest earliest e =
     ((length latest < signal-count gates registers) × (e ≡ NoRoom (signal-count gates registers)))
     ⊎ (((signal-count gates registers ≤ length latest) × (length earliest < length latest) × (e ≡ NoRoom (length latest)))
     ⊎ ((signal-count gates registers ≤ length latest) × (length latest ≤ length earliest)
-       × ((i : ℕ) × (e ≡ TooLarge i)
-         × (All-or-first (Small-source latest) (length latest - gate-count gates) (Some i)
-           ⊎ (All-or-first (Small-source latest) (length latest - gate-count gates) None × All-or-first (Small-source earliest) (length latest - gate-count gates) (Some i))))))
+    × ((i : ℕ) × (e ≡ TooLarge i)
+    × (All-or-first (Small-source latest) (length latest - gate-count gates) (Some i)
+    ⊎ (All-or-first (Small-source latest) (length latest - gate-count gates) None × All-or-first (Small-source earliest) (length latest - gate-count gates) (Some i))))))
 
 -- room for the times of a circuit's signals that is too short is refused by the length that is needed
 abbrev pub Times-refused : (gates registers latest earliest : List ℕ) → Refusal → Type 0

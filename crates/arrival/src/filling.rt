@@ -73,9 +73,9 @@ fn first_large(times: &[u64], n: usize) -> Option<usize>
 pub fn fill(circuit: Circuit<'_>, latest: &mut [u64], earliest: &mut [u64]) -> Result<(), Refusal>
     ensures { λ r. ⌜ Cases r
         (λ _. Over-sources Late (length (now (latest .entry)) - gate-count (now (circuit .entry .gates))) (now (circuit .entry .gates)) (now (latest .entry)) (now (latest .exit))
-            × Over-sources Early (length (now (latest .entry)) - gate-count (now (circuit .entry .gates))) (now (circuit .entry .gates)) (now (earliest .entry)) (now (earliest .exit)))
+        × Over-sources Early (length (now (latest .entry)) - gate-count (now (circuit .entry .gates))) (now (circuit .entry .gates)) (now (earliest .entry)) (now (earliest .exit)))
         (λ e. Sources-refused (now (circuit .entry .gates)) (now (circuit .entry .registers)) (now (latest .entry)) (now (earliest .entry)) e
-            × (now (latest .exit) ≡ now (latest .entry)) × (now (earliest .exit) ≡ now (earliest .entry))) ⌝ }
+        × (now (latest .exit) ≡ now (latest .entry)) × (now (earliest .exit) ≡ now (earliest .entry))) ⌝ }
 {
     let gates = circuit.gates.len() / 7;
     let needed = circuit.registers.len() / 3 + gates;
@@ -110,12 +110,16 @@ fn fill_registers(circuit: Circuit<'_>, latest: &mut [u64], earliest: &mut [u64]
 }
 
 // The latest and the earliest time of every signal of a circuit, from its cycle's beginning.
-pub fn fill_from_registers(circuit: Circuit<'_>, latest: &mut [u64], earliest: &mut [u64]) -> Result<(), Refusal>
+pub fn fill_from_registers(
+    circuit: Circuit<'_>,
+    latest: &mut [u64],
+    earliest: &mut [u64],
+) -> Result<(), Refusal>
     ensures { λ r. ⌜ Cases r
         (λ _. Over-registers Late (now (circuit .entry .gates)) (now (circuit .entry .registers)) (now (circuit .entry .times)) (now (latest .entry)) (now (latest .exit))
-            × Over-registers Early (now (circuit .entry .gates)) (now (circuit .entry .registers)) (now (circuit .entry .times)) (now (earliest .entry)) (now (earliest .exit)))
+        × Over-registers Early (now (circuit .entry .gates)) (now (circuit .entry .registers)) (now (circuit .entry .times)) (now (earliest .entry)) (now (earliest .exit)))
         (λ e. Times-refused (now (circuit .entry .gates)) (now (circuit .entry .registers)) (now (latest .entry)) (now (earliest .entry)) e
-            × (now (latest .exit) ≡ now (latest .entry)) × (now (earliest .exit) ≡ now (earliest .entry))) ⌝ }
+        × (now (latest .exit) ≡ now (latest .entry)) × (now (earliest .exit) ≡ now (earliest .entry))) ⌝ }
 {
     let n = circuit.registers.len() / 3;
     let needed = n + circuit.gates.len() / 7;

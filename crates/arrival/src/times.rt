@@ -38,8 +38,8 @@ impl<'a> Arrivals<'a> {
     pub fn times(self, signal: usize) -> Result<Times, Refusal>
         ensures { λ r. ⌜ Cases r
             (λ x. (signal < signal-count (now (self .entry .circuit .gates)) (now (self .entry .circuit .registers)))
-                × (x .latest ≡ time-of Late (now (self .entry .circuit .gates)) (now (self .entry .circuit .registers)) (now (self .entry .circuit .times)) signal)
-                × (x .earliest ≡ time-of Early (now (self .entry .circuit .gates)) (now (self .entry .circuit .registers)) (now (self .entry .circuit .times)) signal))
+            × (x .latest ≡ time-of Late (now (self .entry .circuit .gates)) (now (self .entry .circuit .registers)) (now (self .entry .circuit .times)) signal)
+            × (x .earliest ≡ time-of Early (now (self .entry .circuit .gates)) (now (self .entry .circuit .registers)) (now (self .entry .circuit .times)) signal))
             (λ e. (e ≡ NoSignal signal) × (signal-count (now (self .entry .circuit .gates)) (now (self .entry .circuit .registers)) ≤ signal)) ⌝ }
     {
         if signal >= self.circuit.registers.len() / 3 + self.circuit.gates.len() / 7 {

@@ -15,8 +15,8 @@ filled-none d f xs = record { filled = λ k h. absurd (omega arith); rest = λ k
 pub filled-more : {A : Type 0} {d : A} {n : ℕ} {f : ℕ → A} {before after : List A} → Filled d n f before after → (v : A) → n < length after → v ≡ f n → Filled d (n + 1) f before (set after n v)
 filled-more {d} {n} {f} {before} {after} sofar v room is = record {
   filled = λ k h. elim (cases-eq k n) [
-      inl same ↦ rw same (getD-set-same after n v d room ∙ is)
+    | inl same ↦ rw same (getD-set-same after n v d room ∙ is)
     | inr other ↦ let ne : k ≢ n = other in getD-set-other after n k v d ne ∙ sofar .filled k (omega arith)
-    ];
+  ];
   rest = λ k h. let ne : k ≢ n = omega arith in getD-set-other after n k v d ne ∙ sofar .rest k (omega arith);
 }

@@ -78,15 +78,15 @@ first-large g r t p met large before = let w : Small g r t p → ⊥ = λ s. ome
 module _ (g r t : List ℕ) (small : (p : ℕ) → Small g r t p) where
   pub small-gates : (i : ℕ) → getD g i 0 ≤ 1000000
   small-gates i = elim (cases-lt i (length g)) [
-      inl h ↦ omega (arith, small i, in-gates g r t i h)
+    | inl h ↦ omega (arith, small i, in-gates g r t i h)
     | inr h ↦ omega (arith, getD-past g i 0 h)
-    ]
+  ]
 
   pub small-registers : (i : ℕ) → getD r i 0 ≤ 1000000
   small-registers i = elim (cases-lt i (length r)) [
-      inl h ↦ omega (arith, small (length g + i), in-registers g r t i h)
+    | inl h ↦ omega (arith, small (length g + i), in-registers g r t i h)
     | inr h ↦ omega (arith, getD-past r i 0 h)
-    ]
+  ]
 
   pub small-times : (i : ℕ) → getD t i 0 ≤ 1000000
   small-times i = omega (arith, small (length g + length r + i), in-times g r t i)

@@ -1,1 +1,3 @@
+pub mod Sums
 pub mod Telling
+pub mod Writing

@@ -30,6 +30,7 @@ time-at-first-requires c κs =
     }
 
 pub loop-k-again : need.loop-k-again
-loop-k-again c =
-    (turn Late _ _ (c .pre .few) (c .pre .small) (c .pre .sound) _ (c .pre .late) (c .loop-k .k) (c .loop-k-test .taken) _ (c .loop-k .inv .0) _ (omega arith) (c .time-at-last .ensures),
-     turn Early _ _ (c .pre .few) (c .pre .small) (c .pre .sound) _ (c .pre .early) (c .loop-k .k) (c .loop-k-test .taken) _ (c .loop-k .inv .1) _ (omega arith) (c .time-at-first .ensures))
+loop-k-again c = (
+  turn Late _ _ (c .pre .few) (c .pre .small) (c .pre .sound) _ (c .pre .late) (c .loop-k .k) (c .loop-k-test .taken) _ (c .loop-k .inv .0) _ (omega arith) (c .time-at-last .ensures),
+  turn Early _ _ (c .pre .few) (c .pre .small) (c .pre .sound) _ (c .pre .early) (c .loop-k .k) (c .loop-k-test .taken) _ (c .loop-k .inv .1) _ (omega arith) (c .time-at-first .ensures),
+)
