@@ -31,6 +31,10 @@ Over-sources e n gates before after = Filled 0 (n + gate-count gates) (arrival e
 abbrev pub Over-registers : Edge → (gates registers times before after : List ℕ) → Type 0
 Over-registers e gates registers times before after = Filled 0 (signal-count gates registers) (time-of e gates registers times) before after
 
+-- there is room for the times of all signals
+abbrev pub Enough : (gates registers latest earliest : List ℕ) → Type 0
+Enough gates registers latest earliest = (signal-count gates registers ≤ length latest) × (signal-count gates registers ≤ length earliest)
+
 -- times of sources are at most this, so that no sum overflows
 abbrev pub largest-source : ℕ
 largest-source = 2 ^ 63

@@ -8,7 +8,7 @@ ghost use Rattle.circuit.specs.Filled.{Filled};
 ghost use Rattle.circuit.specs.Circuit.{Sound};
 ghost use Rattle.circuit.specs.Lent.{gate-count, register-count, signal-count, gate-in, circuit-in};
 ghost use Rattle.arrival.specs.Arrival.{delay, choose};
-ghost use Rattle.arrival.specs.Lent.{source, Small-source, Over-sources, Over-registers, Sources-refused, Times-refused};
+ghost use Rattle.arrival.specs.Lent.{source, Small-source, Over-sources, Over-registers, Enough, Sources-refused, Times-refused};
 ghost use Rattle.circuit.specs.Refused.{All-or-first};
 ghost use Rattle.arrival.specs.declared.edge.Edge.the-variants.{Late, Early};
 use crate::edge::Edge;
@@ -116,7 +116,8 @@ pub fn fill_from_registers(
     earliest: &mut [u64],
 ) -> Result<(), Refusal>
     ensures { λ r. ⌜ Cases r
-        (λ _. Over-registers Late (now (circuit .entry .gates)) (now (circuit .entry .registers)) (now (circuit .entry .times)) (now (latest .entry)) (now (latest .exit))
+        (λ _. Enough (now (circuit .entry .gates)) (now (circuit .entry .registers)) (now (latest .entry)) (now (earliest .entry))
+            × Over-registers Late (now (circuit .entry .gates)) (now (circuit .entry .registers)) (now (circuit .entry .times)) (now (latest .entry)) (now (latest .exit))
         × Over-registers Early (now (circuit .entry .gates)) (now (circuit .entry .registers)) (now (circuit .entry .times)) (now (earliest .entry)) (now (earliest .exit)))
         (λ e. Times-refused (now (circuit .entry .gates)) (now (circuit .entry .registers)) (now (latest .entry)) (now (earliest .entry)) e
         × (now (latest .exit) ≡ now (latest .entry)) × (now (earliest .exit) ≡ now (earliest .entry))) ⌝ }

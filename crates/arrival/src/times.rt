@@ -18,9 +18,9 @@ pub struct Times {
     pub earliest: u64,
 }
 
-impl<'a> Arrivals<'a> {
+impl<'a, 'b> Arrivals<'a, 'b> {
     // The circuit with times that were filled in.
-    pub fn new(circuit: Circuit<'a>, latest: &'a [u64], earliest: &'a [u64]) -> Self
+    pub fn new(circuit: Circuit<'a>, latest: &'b [u64], earliest: &'b [u64]) -> Self
         requires room { ⌜ (signal-count (now (circuit .gates)) (now (circuit .registers)) ≤ length (now latest)) × (signal-count (now (circuit .gates)) (now (circuit .registers)) ≤ length (now earliest)) ⌝ }
         requires late { ⌜ ((k : ℕ) → k < signal-count (now (circuit .gates)) (now (circuit .registers)) → getD (now latest) k 0 ≡ time-of Late (now (circuit .gates)) (now (circuit .registers)) (now (circuit .times)) k) ⌝ }
         requires early { ⌜ ((k : ℕ) → k < signal-count (now (circuit .gates)) (now (circuit .registers)) → getD (now earliest) k 0 ≡ time-of Early (now (circuit .gates)) (now (circuit .registers)) (now (circuit .times)) k) ⌝ }

@@ -20,7 +20,7 @@ struct Step {
 }
 
 // The step back from gate `k`.
-fn back(a: Arrivals<'_>, edge: Edge, k: usize) -> Step
+fn back(a: Arrivals<'_, '_>, edge: Edge, k: usize) -> Step
     requires { ⌜ k < gate-count (now (a .circuit .gates)) ⌝ }
     ensures second { λ r. ⌜ r .second ≡ by-second edge
         (time-of edge (now (a .entry .circuit .gates)) (now (a .entry .circuit .registers)) (now (a .entry .circuit .times)) (gate-in (now (a .entry .circuit .gates)) k .one) + delay edge false (gate-in (now (a .entry .circuit .gates)) k))
@@ -42,7 +42,7 @@ fn back(a: Arrivals<'_>, edge: Edge, k: usize) -> Step
 }
 
 // How many gates are on the path to signal `to`.
-fn gates_on(a: Arrivals<'_>, edge: Edge, to: usize) -> usize
+fn gates_on(a: Arrivals<'_, '_>, edge: Edge, to: usize) -> usize
     requires { ⌜ to < signal-count (now (a .circuit .gates)) (now (a .circuit .registers)) ⌝ }
     ensures steps { λ r. ⌜ r ≡ length (told edge (drawn (now (a .entry .circuit .gates)) (now (a .entry .circuit .registers))) (source edge (now (a .entry .circuit .registers)) (now (a .entry .circuit .times))) to .1) ⌝ }
     ensures few { λ r. ⌜ r ≤ to ⌝ }
@@ -67,7 +67,7 @@ fn put_step(out: &mut [u32], i: usize, gate: u32, second: bool)
 }
 
 // Writes the path to signal `to`, which goes through `count` gates, from its end to its beginning.
-fn put(a: Arrivals<'_>, edge: Edge, to: usize, count: usize, out: &mut [u32])
+fn put(a: Arrivals<'_, '_>, edge: Edge, to: usize, count: usize, out: &mut [u32])
     requires signal { ⌜ to < signal-count (now (a .circuit .gates)) (now (a .circuit .registers)) ⌝ }
     requires steps { ⌜ count ≡ length (told edge (drawn (now (a .circuit .gates)) (now (a .circuit .registers))) (source edge (now (a .circuit .registers)) (now (a .circuit .times))) to .1) ⌝ }
     requires room { ⌜ 1 + 2 * count ≤ length (now out) ⌝ }
@@ -87,7 +87,7 @@ fn put(a: Arrivals<'_>, edge: Edge, to: usize, count: usize, out: &mut [u32])
 
 // Writes the path by which a signal's latest or earliest time is reached, of several the first, and answers how many
 // numbers it takes. A signal past the circuit, or room that is too short for this path, is refused.
-pub fn path(a: Arrivals<'_>, edge: Edge, signal: usize, out: &mut [u32]) -> Result<usize, Refusal>
+pub fn path(a: Arrivals<'_, '_>, edge: Edge, signal: usize, out: &mut [u32]) -> Result<usize, Refusal>
     ensures { λ r. ⌜ Cases r
         (λ len. (signal < signal-count (now (a .entry .circuit .gates)) (now (a .entry .circuit .registers)))
         × Path-told edge (now (a .entry .circuit .gates)) (now (a .entry .circuit .registers)) (now (a .entry .circuit .times)) signal len (now (out .entry)) (now (out .exit)))
