@@ -1,11 +1,13 @@
 // What is said of a circuit that was read.
 ghost use Rattle.std.specs.Vec.{made};
 ghost use Rattle.text.specs.Meaning.{drafted};
-ghost use Rattle.answer.specs.Taken.{Taken-if};
+ghost use Rattle.answer.specs.Said.{Passed-if};
 use circuit::Refusal;
 use reason::Detail;
 use reason::DetailDisplay;
 use reason::Reason;
+use signoff::Miss;
+use signoff::Verdict;
 use std::fmt;
 use std::fmt::Write;
 use text::Draft;
@@ -67,31 +69,84 @@ fn put_reason(out: &mut String, reason: Reason, line: usize) -> fmt::Result {
     )
 }
 
-// Adds to `out` the line that is said of a circuit, and answers whether it is taken. `text` is what the circuit was read
-// from, and `before` the number of lines before that.
+// The gates on a path that lent room begins with, as signal numbers, each after a comma but the first.
+fn put_gates(out: &mut String, room: &[u32], path: usize) -> fmt::Result {
+    for (i, signal) in room.iter().enumerate() {
+        if i >= path {
+            break;
+        }
+        if i == 1 {
+            write!(out, " by {signal}")?;
+        } else if i % 2 == 1 {
+            write!(out, ", {signal}")?;
+        }
+    }
+    Ok(())
+}
+
+fn put_miss(out: &mut String, what: &str, miss: Miss, room: &[u32]) -> fmt::Result {
+    let register = miss.register;
+    let arrival = miss.arrival;
+    let limit = miss.limit;
+    write!(out, "{what} at {register}")?;
+    put_gates(out, room, miss.path)?;
+    writeln!(out, ": {arrival} and {limit}")
+}
+
+fn put_refusal(
+    out: &mut String,
+    draft: &Draft,
+    refusal: Refusal,
+    text: &[u8],
+    before: usize,
+) -> fmt::Result {
+    match reason::explain(&draft.gates, &draft.registers, &draft.times) {
+        Some(reason) => {
+            let line = line_of(text, draft.line, reason.detail).saturating_add(before);
+            put_reason(out, reason, line)
+        }
+        None => {
+            let number = refusal.number();
+            let place = refusal.place();
+            writeln!(out, "turned away by {number} at {place}: room is too short")
+        }
+    }
+}
+
+// Adds to `out` the line that is said of a circuit, and answers whether it is passed. `text` is what the circuit was read
+// from, `before` the number of lines before that, and `room` is lent for a path.
 pub fn answer(
     out: &mut String,
     draft: &Draft,
     text: &[u8],
     before: usize,
+    room: &mut [u32],
 ) -> Result<bool, fmt::Error>
-    ensures { λ r. ⌜ made r (λ taken. Taken-if (drafted (now (draft .entry))) taken) ⌝ }
+    ensures { λ r. ⌜ made r (λ passed. Passed-if (drafted (now (draft .entry))) passed) ⌝ }
 {
     put_name(out, &draft.name)?;
     if let Some(m) = draft.miscount {
         put_miscount(out, m, before)?;
         return Ok(false);
     }
-    match reason::explain(&draft.gates, &draft.registers, &draft.times) {
-        None => {
-            let registers = draft.registers.len() / 3;
-            let gates = draft.gates.len() / 7;
-            writeln!(out, "taken: {registers} registers, {gates} gates")?;
+    let verdict = match signoff::pass(&draft.gates, &draft.registers, &draft.times, room) {
+        Ok(verdict) => verdict,
+        Err(refusal) => {
+            put_refusal(out, draft, refusal, text, before)?;
+            return Ok(false);
+        }
+    };
+    match verdict {
+        Verdict::Passed => {
+            writeln!(out, "passed")?;
             Ok(true)
         }
-        Some(reason) => {
-            let line = line_of(text, draft.line, reason.detail).saturating_add(before);
-            put_reason(out, reason, line)?;
+        Verdict::TooLate(miss) => {
+            put_miss(out, "too late", miss, room)?;
+            Ok(false)
+        }
+        Verdict::TooEarly(miss) => {
+            put_miss(out, "too early", miss, room)?;
             Ok(false)
         }
     }

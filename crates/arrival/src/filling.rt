@@ -117,7 +117,7 @@ pub fn fill_from_registers(
 ) -> Result<(), Refusal>
     ensures { λ r. ⌜ Cases r
         (λ _. Enough (now (circuit .entry .gates)) (now (circuit .entry .registers)) (now (latest .entry)) (now (earliest .entry))
-            × Over-registers Late (now (circuit .entry .gates)) (now (circuit .entry .registers)) (now (circuit .entry .times)) (now (latest .entry)) (now (latest .exit))
+        × Over-registers Late (now (circuit .entry .gates)) (now (circuit .entry .registers)) (now (circuit .entry .times)) (now (latest .entry)) (now (latest .exit))
         × Over-registers Early (now (circuit .entry .gates)) (now (circuit .entry .registers)) (now (circuit .entry .times)) (now (earliest .entry)) (now (earliest .exit)))
         (λ e. Times-refused (now (circuit .entry .gates)) (now (circuit .entry .registers)) (now (latest .entry)) (now (earliest .entry)) e
         × (now (latest .exit) ≡ now (latest .entry)) × (now (earliest .exit) ≡ now (earliest .entry))) ⌝ }

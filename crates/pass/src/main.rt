@@ -1,4 +1,4 @@
-// pass: tells for each circuit of each file whether it is taken, or why it is turned away.
+// pass: passes the circuits of files, or names what stands in their way.
 use fields::Expected;
 use fields::Fault;
 use std::env;
@@ -11,23 +11,38 @@ use std::io::Write;
 const USAGE: &str = "usage: pass [--exit-zero] [--help] [--version] FILE...";
 
 const HELP: &str =
-    "Tells for each circuit of each FILE, in order, whether it is taken, or why it is turned away.
+    "Passes the circuits of each FILE, in order, or says what stands in the way: a line for each.
+
+  passed                      whatever delays and clocks do within their bounds, the
+                              registers hold what the drawing says, in every cycle
+  too late at R by G, G: A and B
+                              the input of register R comes too late, by the path through
+                              these gates: latest time and setup A, period and early time B
+  too early at R by G, G: A and B
+                              the input of register R changes too early: earliest time A,
+                              late time and hold B
+  turned away by N at P: REASON
+                              the numbers are no circuit
 
   FILE          a text of circuits; - is standard input
   --exit-zero   end with status 0 whatever is said of the circuits
   --help        print this and end
   --version     print the version and end
 
-Status 0 if every circuit is taken; else 1. A file that cannot be read, that has a fault in its text, or that has no
-circuit is an error: it is told on standard error, and the status is 1 in any case.";
+Status 0 if every circuit is passed; else 1. A file that cannot be read, that has a fault
+in its text, or that has no circuit is an error: it is told on standard error, and the
+status is 1 in any case.";
 
 const VERSION: &str = "pass (muleminute) 0.1.0";
+
+// As many numbers as a path can have: a register, and two for each gate.
+const LONGEST_PATH: usize = 32_769;
 
 // What was found so far.
 #[derive(Clone, Copy)]
 struct Tally {
-    // Every circuit was taken.
-    taken: bool,
+    // Every circuit was passed.
+    passed: bool,
     // Every file was read to its end, without a fault, and had a circuit.
     sound: bool,
 }
@@ -74,6 +89,7 @@ fn pass_text(
     rt: &LibcRuntime,
     path: &str,
     bytes: &[u8],
+    room: &mut [u32],
     mut tally: Tally,
 ) -> Result<Tally, AnyError> {
     let heap = rt.alloc();
@@ -85,8 +101,8 @@ fn pass_text(
         match text::read(heap, rest) {
             Ok(Some(read)) => {
                 some = true;
-                if !answer::answer(&mut out, &read.draft, rest, before)? {
-                    tally.taken = false;
+                if !answer::answer(&mut out, &read.draft, rest, before, room)? {
+                    tally.passed = false;
                 }
                 before = before.saturating_add(read.next).saturating_sub(1);
                 rest = read.rest;
@@ -113,7 +129,7 @@ fn pass_text(
 
 fn pass_file(rt: &LibcRuntime, path: &str, mut tally: Tally) -> Result<Tally, AnyError> {
     match read_all(rt, path) {
-        Ok(bytes) => pass_text(rt, path, &bytes, tally),
+        Ok(bytes) => pass_text(rt, path, &bytes, &mut [0; LONGEST_PATH], tally),
         Err(e) => {
             eprintln!(rt, "pass: {path}: {e}")?;
             tally.sound = false;
@@ -172,7 +188,7 @@ fn parse(rt: &LibcRuntime) -> io::Result<Options> {
 
 fn pass_files(rt: &LibcRuntime) -> Result<Tally, AnyError> {
     let mut tally = Tally {
-        taken: true,
+        passed: true,
         sound: true,
     };
     for arg in env::args(rt)?.skip(1) {
@@ -199,10 +215,10 @@ fn run(rt: &LibcRuntime) -> Result<(), AnyError> {
         return Err("usage".into());
     }
     let tally = pass_files(rt)?;
-    if tally.sound && (tally.taken || o.exit_zero) {
+    if tally.sound && (tally.passed || o.exit_zero) {
         Ok(())
     } else {
-        Err("not all are taken".into())
+        Err("not all are passed".into())
     }
 }
 

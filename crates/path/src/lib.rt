@@ -87,7 +87,12 @@ fn put(a: Arrivals<'_, '_>, edge: Edge, to: usize, count: usize, out: &mut [u32]
 
 // Writes the path by which a signal's latest or earliest time is reached, of several the first, and answers how many
 // numbers it takes. A signal past the circuit, or room that is too short for this path, is refused.
-pub fn path(a: Arrivals<'_, '_>, edge: Edge, signal: usize, out: &mut [u32]) -> Result<usize, Refusal>
+pub fn path(
+    a: Arrivals<'_, '_>,
+    edge: Edge,
+    signal: usize,
+    out: &mut [u32],
+) -> Result<usize, Refusal>
     ensures { λ r. ⌜ Cases r
         (λ len. (signal < signal-count (now (a .entry .circuit .gates)) (now (a .entry .circuit .registers)))
         × Path-told edge (now (a .entry .circuit .gates)) (now (a .entry .circuit .registers)) (now (a .entry .circuit .times)) signal len (now (out .entry)) (now (out .exit)))

@@ -12,17 +12,17 @@ use Rattle.promise.specs.Promise.{Within, Narrower, Slower, with-period}
 pub narrower : Narrower
 narrower new old v passed =
     let less = monotone Late (new .circuit) (old .circuit) (since new) (since old) (v .formed .sound) (passed .formed .sound) (v .circuit-within)
-          (λ i h. let r : i < old .registers = omega (arith, passed .formed .sources) in omega (arith, v .clock-within i r, v .output-within)) in
+    (λ i h. let r : i < old .registers = omega (arith, passed .formed .sources) in omega (arith, v .clock-within i r, v .output-within)) in
     let more = monotone Early (new .circuit) (old .circuit) (still-for new) (still-for old) (v .formed .sound) (passed .formed .sound) (v .circuit-within)
-          (λ i h. let r : i < old .registers = omega (arith, passed .formed .sources) in omega (arith, v .clock-within i r, v .output-within)) in
+    (λ i h. let r : i < old .registers = omega (arith, passed .formed .sources) in omega (arith, v .clock-within i r, v .output-within)) in
     record {
       formed = v .formed;
       setup-kept = λ r h.
-        let q : r < old .registers = omega (arith, v .registers-same) in
-        rw (v .takes-same r q) (omega (arith, less (old .takes r) (passed .formed .taken r q), passed .setup-kept r q, v .clock-within r q, v .setup-within, v .period-within));
+          let q : r < old .registers = omega (arith, v .registers-same) in
+          rw (v .takes-same r q) (omega (arith, less (old .takes r) (passed .formed .taken r q), passed .setup-kept r q, v .clock-within r q, v .setup-within, v .period-within));
       hold-kept = λ r h.
-        let q : r < old .registers = omega (arith, v .registers-same) in
-        rw (v .takes-same r q) (omega (arith, more (old .takes r) (passed .formed .taken r q), passed .hold-kept r q, v .clock-within r q, v .hold-within));
+          let q : r < old .registers = omega (arith, v .registers-same) in
+          rw (v .takes-same r q) (omega (arith, more (old .takes r) (passed .formed .taken r q), passed .hold-kept r q, v .clock-within r q, v .hold-within));
     }
 
 pub slower : Slower

@@ -24,10 +24,10 @@ use Rattle.promise.proofs.Keeping.{carries}
 pub ordered : (m : Machine) → Formed m → (k : ℕ) → k < signals (m .circuit) → first-change m k ≤ last-change m k
 ordered m formed = each-signal (m .circuit) (formed .sound) (λ k. first-change m k ≤ last-change m k)
     (λ i h.
-        let r : i < m .registers = omega (arith, formed .sources) in
-        omega (arith, arrival-in Early (m .circuit) (formed .sound) (still-for m) i h, arrival-in Late (m .circuit) (formed .sound) (since m) i h, formed .clocked i r, formed .output-ordered))
+    let r : i < m .registers = omega (arith, formed .sources) in
+    omega (arith, arrival-in Early (m .circuit) (formed .sound) (still-for m) i h, arrival-in Late (m .circuit) (formed .sound) (since m) i h, formed .clocked i r, formed .output-ordered))
     (λ k h p q.
-        omega (arith, arrival-at Early (m .circuit) (formed .sound) (still-for m) k h, arrival-at Late (m .circuit) (formed .sound) (since m) k h, formed .sound .ranges k h))
+    omega (arith, arrival-at Early (m .circuit) (formed .sound) (still-for m) k h, arrival-at Late (m .circuit) (formed .sound) (since m) k h, formed .sound .ranges k h))
 
 -- clocks of one register come in order: its latest clock is before the next cycle's earliest
 pub in-order : (m : Machine) → Passed m → (r : ℕ) → r < m .registers → m .late r < m .period + m .early r
@@ -44,10 +44,10 @@ unfolding cycle-at
 cycle-is c d zero t n le now later = omega arith
 cycle-is c d (suc b) t n le now later =
     elim (cases-eq n (suc b)) [
-      inl same ↦ let h : c (suc b) + d ≤ t = rw same at now in rw (le-leb _ _ h) (sym same)
-    | inr other ↦
-        let lt : n < suc b = omega arith in
-        rw (lt-leb _ _ (later (suc b) lt)) (cycle-is c d b t n (omega arith) now later)
+      | inl same ↦ let h : c (suc b) + d ≤ t = rw same at now in rw (le-leb _ _ h) (sym same)
+      | inr other ↦
+          let lt : n < suc b = omega arith in
+          rw (lt-leb _ _ (later (suc b) lt)) (cycle-is c d b t n (omega arith) now later)
     ]
 
 -- the waves of a circuit whose delays are given, from those of its sources
@@ -68,8 +68,8 @@ waves-move c sound one two within s k t h _ _ = record {
   two-least = within .two-within k t h .0;
   two-greatest = within .two-within k t h .1;
   is =
-    let n : c .inputs + k - c .inputs ≡ k = omega arith in
-    rw n at (ap (λ (x : Wave). x t) (all-at (λ n g a b t. output (g .table) (a (t - one (n - c .inputs) t)) (b (t - two (n - c .inputs) t))) c sound s k h));
+      let n : c .inputs + k - c .inputs ≡ k = omega arith in
+      rw n at (ap (λ (x : Wave). x t) (all-at (λ n g a b t. output (g .table) (a (t - one (n - c .inputs) t)) (b (t - two (n - c .inputs) t))) c sound s k h));
 }
 
 module _ (m : Machine) (start : ℕ → Bool) (one two : ℕ → ℕ → ℕ) (clock : ℕ → ℕ → ℕ) (passed : Passed m) (within : Delays (m .circuit) one two) (clocks : Clocks m clock) where
@@ -99,11 +99,11 @@ module _ (m : Machine) (start : ℕ → Bool) (one two : ℕ → ℕ → ℕ) (c
       let le : n * 1 ≤ n * m .period = mul-le-mul-left n p in
       waves-in (m .circuit) (passed .formed .sound) one two shown r t i
       ∙ ap (λ x. drawing m start x r)
-          (cycle-is (λ n. clock n r) (m .output-late) t t n (omega (arith, clocks n r h)) a
-            (λ j lt. elim (cases-eq j (suc n)) [
-                inl same ↦ rw same (omega (arith, passed .formed .output-ordered))
-              | inr other ↦ omega (arith, passed .formed .output-ordered, later-clocks n r j h (omega arith))
-              ]))
+      (cycle-is (λ n. clock n r) (m .output-late) t t n (omega (arith, clocks n r h)) a
+      (λ j lt. elim (cases-eq j (suc n)) [
+        | inl same ↦ rw same (omega (arith, passed .formed .output-ordered))
+        | inr other ↦ omega (arith, passed .formed .output-ordered, later-clocks n r j h (omega arith))
+      ]))
 
   takes : (n r : ℕ) (b : Bool) → r < m .registers →
       ((t : ℕ) → clock (suc n) r ≤ t + m .setup → t ≤ clock (suc n) r + m .hold → wave (m .takes r) t ≡ b) → drawing m start (suc n) r ≡ b
@@ -111,20 +111,22 @@ module _ (m : Machine) (start : ℕ → Bool) (one two : ℕ → ℕ → ℕ) (c
   takes n r b h all =
       let at-clock = clocks (suc n) r h in
       sym (carries m wave (passed .formed .sound) (waves-move (m .circuit) (passed .formed .sound) one two within shown) n (drawing m start n)
-        (λ i t q a z.
-            let s : i < m .registers = omega (arith, passed .formed .sources) in
-            shows n i t s (omega (arith, clocks n i s)) (omega (arith, clocks (suc n) i s)))
-        (m .takes r) (clock (suc n) r) (passed .formed .taken r h) (omega (arith, passed .setup-kept r h)) (omega (arith, passed .hold-kept r h)))
+      (λ i t q a z.
+      let s : i < m .registers = omega (arith, passed .formed .sources) in
+      shows n i t s (omega (arith, clocks n i s)) (omega (arith, clocks (suc n) i s)))
+      (m .takes r) (clock (suc n) r) (passed .formed .taken r h) (omega (arith, passed .setup-kept r h)) (omega (arith, passed .hold-kept r h)))
       ∙ all (clock (suc n) r) (omega arith) (omega arith)
 
 pub can-go : Can-go
 unfolding held wave
-can-go m start one two clock passed within clocks =
-    (drawing m start, wave m start one two clock passed within clocks,
-     record {
-       clocks = clocks;
-       gates = waves-move (m .circuit) (passed .formed .sound) one two within (shown m start one two clock passed within clocks);
-       starts = λ r h. refl;
-       shows = shows m start one two clock passed within clocks;
-       takes = takes m start one two clock passed within clocks;
-     })
+can-go m start one two clock passed within clocks = (
+  drawing m start,
+  wave m start one two clock passed within clocks,
+  record {
+    clocks = clocks;
+    gates = waves-move (m .circuit) (passed .formed .sound) one two within (shown m start one two clock passed within clocks);
+    starts = λ r h. refl;
+    shows = shows m start one two clock passed within clocks;
+    takes = takes m start one two clock passed within clocks;
+  },
+)

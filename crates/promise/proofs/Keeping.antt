@@ -24,8 +24,8 @@ Carries m w =
 pub carries : (m : Machine) (w : ℕ → Wave) → Sound (m .circuit) → Moves (m .circuit) w → Carries m w
 carries m w sound moves n b shown k t h a z =
     window (m .circuit) w b (λ i. n * m .period + since m i) (λ i. suc n * m .period + still-for m i) sound moves shown k t h
-      (rw (shifts Late (m .circuit) (since m) (n * m .period) sound k h) a)
-      (rw (shifts Early (m .circuit) (still-for m) (suc n * m .period) sound k h) z)
+    (rw (shifts Late (m .circuit) (since m) (n * m .period) sound k h) a)
+    (rw (shifts Early (m .circuit) (still-for m) (suc n * m .period) sound k h) z)
 
 module _ (m : Machine) (start : ℕ → Bool) (clock : ℕ → ℕ → ℕ) (holds : ℕ → ℕ → Bool) (w : ℕ → Wave) (passed : Passed m) (run : Run m start clock holds w) where
   -- what the registers hold is shown in the sources' windows
@@ -39,9 +39,9 @@ module _ (m : Machine) (start : ℕ → Bool) (clock : ℕ → ℕ → ℕ) (hol
   kept zero r h = run .starts r h
   kept (suc n) r h =
       run .takes n r (drawing m start (suc n) r) h (λ t a z.
-        let at-clock = run .clocks (suc n) r h in
-        carries m w (passed .formed .sound) (run .gates) n (holds n) (shown n) (m .takes r) t (passed .formed .taken r h) (omega (arith, passed .setup-kept r h)) (omega (arith, passed .hold-kept r h))
-        ∙ ideal-agrees (m .circuit) (passed .formed .sound) (holds n) (drawing m start n) (λ i q. kept n i (omega (arith, passed .formed .sources))) (m .takes r) (passed .formed .taken r h))
+      let at-clock = run .clocks (suc n) r h in
+      carries m w (passed .formed .sound) (run .gates) n (holds n) (shown n) (m .takes r) t (passed .formed .taken r h) (omega (arith, passed .setup-kept r h)) (omega (arith, passed .hold-kept r h))
+      ∙ ideal-agrees (m .circuit) (passed .formed .sound) (holds n) (drawing m start n) (λ i q. kept n i (omega (arith, passed .formed .sources))) (m .takes r) (passed .formed .taken r h))
 
   windowed : (n k t : ℕ) → k < signals (m .circuit) → n * m .period + last-change m k ≤ t → t < suc n * m .period + first-change m k → w k t ≡ ideal (m .circuit) (drawing m start n) k
   windowed n k t h a z =

@@ -117,7 +117,12 @@ fn judge(a: Arrivals<'_, '_>, room: &mut [u32]) -> Result<Verdict, Refusal>
 
 // Passes a clocked circuit, or names the first register whose input comes too late, else the first whose input changes
 // too early, with the path by which this is so in `room`. If it is passed, every run of it holds the drawing's bits.
-pub fn pass<'a>(gates: &'a [u32], registers: &'a [u32], times: &'a [u32], room: &mut [u32]) -> Result<Verdict, Refusal>
+pub fn pass<'a>(
+    gates: &'a [u32],
+    registers: &'a [u32],
+    times: &'a [u32],
+    room: &mut [u32],
+) -> Result<Verdict, Refusal>
     ensures { λ v. ⌜ Answers (now (gates .entry)) (now (registers .entry)) (now (times .entry)) (now (room .entry)) (now (room .exit)) v ⌝ }
 {
     look(gates, registers, times)?;

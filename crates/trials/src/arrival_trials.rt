@@ -11,15 +11,29 @@ use path::path;
 use std::test::*;
 
 const ONE: [u32; 3] = [1, 0, 2];
+
 const TWO: [u32; 6] = [2, 0, 2, 3, 0, 2];
+
 const TIMES: [u32; 5] = [20, 2, 4, 3, 1];
+
 const INVERTER: [u32; 7] = [0, 0, 1, 3, 8, 3, 8];
+
 const EARLY_INVERTER: [u32; 7] = [0, 0, 1, 1, 8, 1, 8];
+
 const COUNTER: [u32; 14] = [0, 0, 1, 3, 8, 3, 8, 0, 1, 6, 4, 9, 2, 7];
+
 const AND_NOT: [u32; 14] = [0, 1, 8, 3, 5, 3, 5, 2, 2, 1, 3, 6, 3, 6];
 
 // A signal's latest and earliest time, and the paths that have them.
-fn same<'a>(gates: &'a [u32], registers: &'a [u32], signal: usize, latest: u64, late: &[u32], earliest: u64, early: &[u32]) -> Result<(), Fail> {
+fn same<'a>(
+    gates: &'a [u32],
+    registers: &'a [u32],
+    signal: usize,
+    latest: u64,
+    late: &[u32],
+    earliest: u64,
+    early: &[u32],
+) -> Result<(), Fail> {
     look(gates, registers, &TIMES)?;
     let c = Circuit::new(gates, registers, &TIMES);
     let mut last = [0; 4];
@@ -57,7 +71,10 @@ fn ties_and_room() -> Result<(), Fail> {
     let c = Circuit::new(&AND_NOT, &TWO, &TIMES);
     let mut last = [0; 4];
     let mut first = [0; 4];
-    check_eq(fill_from_registers(c, &mut [0; 3], &mut first), Err(Refusal::NoRoom(4)))?;
+    check_eq(
+        fill_from_registers(c, &mut [0; 3], &mut first),
+        Err(Refusal::NoRoom(4)),
+    )?;
     fill_from_registers(c, &mut last, &mut first)?;
     let a = Arrivals::new(c, &last, &first);
     let mut room = [9; 6];
@@ -66,7 +83,10 @@ fn ties_and_room() -> Result<(), Fail> {
     let mut short = [9; 4];
     check_eq(path(a, Edge::Late, 3, &mut short), Err(Refusal::NoRoom(5)))?;
     check(&short[0..4] == &[9; 4])?;
-    check_eq(path(a, Edge::Late, 4, &mut short), Err(Refusal::NoSignal(4)))
+    check_eq(
+        path(a, Edge::Late, 4, &mut short),
+        Err(Refusal::NoSignal(4)),
+    )
 }
 
 // The longest chain with the largest delays does not overflow.

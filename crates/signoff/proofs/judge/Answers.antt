@@ -8,9 +8,9 @@ pub returns : need.returns
 returns c =
     let m = c .args .a .circuit in
     let passed : Passed (machine-in (m .gates .now) (m .registers .now) (m .times .now)) =
-          record {
-            formed = formed-in (m .gates .now) (m .registers .now) (m .times .now) (m .placed) (m .ranged) (m .tied) (m .ordered);
-            setup-kept = c .in-rest .ensures tt;
-            hold-kept = c .in-rest-first-early .ensures tt;
-          } in
+    record {
+      formed = formed-in (m .gates .now) (m .registers .now) (m .times .now) (m .placed) (m .ranged) (m .tied) (m .ordered);
+      setup-kept = c .in-rest .ensures tt;
+      hold-kept = c .in-rest-first-early .ensures tt;
+    } in
     (passed, promise-kept _ passed, refl)

@@ -22,7 +22,8 @@ fill-gates-requires c κs =
 
 pub returns : need.returns
 returns c =
-    let sound = sound-in _ _ (c .args .circuit .placed) (c .args .circuit .ranged) in
-    ((omega arith, omega arith),
-     over-registers Late (c .args .circuit .gates .now) (c .args .circuit .registers .now) (c .args .circuit .times .now) _ _ _ sound (c .fill-registers .ensures .late) (c .fill-gates .ensures .late),
-     over-registers Early (c .args .circuit .gates .now) (c .args .circuit .registers .now) (c .args .circuit .times .now) _ _ _ sound (c .fill-registers .ensures .early) (c .fill-gates .ensures .early))
+    let sound = sound-in _ _ (c .args .circuit .placed) (c .args .circuit .ranged) in (
+      (omega arith, omega arith),
+      over-registers Late (c .args .circuit .gates .now) (c .args .circuit .registers .now) (c .args .circuit .times .now) _ _ _ sound (c .fill-registers .ensures .late) (c .fill-gates .ensures .late),
+      over-registers Early (c .args .circuit .gates .now) (c .args .circuit .registers .now) (c .args .circuit .times .now) _ _ _ sound (c .fill-registers .ensures .early) (c .fill-gates .ensures .early),
+    )
