@@ -98,6 +98,29 @@ def main():
         circuit("delay-before-register", times=("20 5 4 3 1",), registers=("9 3 2",), gates=("0 0 nor 9 8 9 8",)),
         circuit("register-before-output", times=("20 5 4 3 1",), registers=("9 3 2",)),
         circuit("output-last", times=("20 5 4 3 1",)))
+    counter = ("0 0 nor 3 8 3 8", "0 1 xor 4 9 2 7")
+    and_not = ("0 1 and 3 5 3 5", "2 2 nor 3 6 3 6")
+    two = ("2 0 2", "3 0 2")
+    other = ("3 0 2", "2 0 2")
+    add("words.circuit",
+        circuit("inverter"),
+        circuit("inverter-slow", times=("16 2 4 3 1",)),
+        circuit("inverter-early", gates=("0 0 nor 1 8 1 8",)),
+        circuit("counter", times=("18 2 4 3 1",), registers=two, gates=counter),
+        circuit("counter-early", times=("18 2 4 3 1",), registers=("2 0 2", "0 0 2"), gates=counter),
+        circuit("and-not", registers=other, gates=and_not),
+        circuit("and-not-slow", times=("19 2 4 3 1",), registers=other, gates=and_not),
+        circuit("just-in-time", times=("17 2 4 3 1",)),
+        circuit("setup-1-more", times=("17 2 4 4 1",)),
+        circuit("period-0", times=("0 2 4 3 1",)),
+        circuit("hold-1-less", times=("20 2 4 3 2",)),
+        circuit("hold-at-the-end", times=("20 2 4 3 3",)),
+        circuit("early-clock-of-the-taker", times=("17 2 4 3 1",), registers=("2 1 2", "2 0 2"), gates=("0 1 or 3 8 3 8",)),
+        circuit("late-clock-of-the-taker", times=("30 2 4 3 1",), registers=("2 0 2", "2 0 4"), gates=("0 1 or 3 8 3 8",)),
+        circuit("too-late-before-too-early", times=("13 2 4 3 1",), registers=("0 0 2", "2 0 2"), gates=("0 1 or 3 8 3 8",)),
+        circuit("second-input-later", times=("10 2 4 3 1",), registers=("3 0 2", "2 0 2"), gates=("0 1 or 3 8 3 9", "0 2 or 3 8 3 8")),
+        circuit("long-path", times=("9 2 4 3 1",), registers=("13 0 2",),
+                gates=tuple("%d %d first 2 3 2 3" % (k, k) for k in range(13))))
     names = "never nor first-only not-second second-only not-first xor nand and xnor first first-or-not-second second second-or-not-first or always"
     add("good.circuit",
         "# a name may be left out, blanks and comments do not count, and a line may end in CR LF\r\n\r\n"

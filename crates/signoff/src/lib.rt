@@ -73,16 +73,16 @@ fn first_early(a: Arrivals<'_, '_>) -> Option<usize>
     ensures { λ r. ⌜ All-or-first (Hold-kept (machine-in (now (a .entry .circuit .gates)) (now (a .entry .circuit .registers)) (now (a .entry .circuit .times)))) (register-count (now (a .entry .circuit .registers))) r ⌝ }
 {
     let n = a.circuit.registers.len() / 3;
-    let mut r = 0;
+    let mut q = 0;
     loop {
-        if r == n {
+        if q == n {
             break None;
         }
-        let sums = early_sums(a, r);
+        let sums = early_sums(a, q);
         if sums.arrival <= sums.limit {
-            break Some(r);
+            break Some(q);
         }
-        r += 1;
+        q += 1;
     }
 }
 
