@@ -12,11 +12,11 @@ use Rattle.promise.specs.Machine.{Machine, Setup-kept, Hold-kept, Passed}
 use Rattle.worked.specs.Rows.{Row, Has, inverter, counter, and-not, passed, too-late, too-early, rows, Rows-have}
 
 -- what holds of each number below n, written out
-abbrev Every : ℕ → (ℕ → Type 0) → Type 0
+abbrev pub Every : ℕ → (ℕ → Type 0) → Type 0
 Every zero P = Unit {0}
 Every (suc n) P = P 0 × Every n (λ k. P (suc k))
 
-each : (n : ℕ) (P : ℕ → Type 0) → Every n P → (k : ℕ) → k < n → P k
+pub each : (n : ℕ) (P : ℕ → Type 0) → Every n P → (k : ℕ) → k < n → P k
 each zero P e k h = absurd (omega arith)
 each (suc n) P e zero h = e .0
 each (suc n) P e (suc k) h = each n (λ k. P (suc k)) (e .1) k (omega arith)
