@@ -8,6 +8,7 @@ use reason::DetailDisplay;
 use reason::Reason;
 use signoff::Miss;
 use signoff::Verdict;
+use std::alloc::Global;
 use std::fmt;
 use std::fmt::Write;
 use text::Draft;
@@ -113,41 +114,58 @@ fn put_refusal(
     }
 }
 
-// Adds to `out` the line that is said of a circuit, and answers whether it is passed. `text` is what the circuit was read
-// from, `before` the number of lines before that, and `room` is lent for a path.
-pub fn answer(
-    out: &mut String,
-    draft: &Draft,
-    text: &[u8],
-    before: usize,
-    room: &mut [u32],
-) -> Result<bool, fmt::Error>
-    ensures { λ r. ⌜ made r (λ passed. Passed-if (drafted (now (draft .entry))) passed) ⌝ }
+// As many numbers as a path can have: a register, and two for each gate.
+const LONGEST_PATH: usize = 32_769;
+
+// The line that is said of a circuit, and whether it is passed.
+#[derive(Drop)]
+pub struct Said {
+    pub line: String,
+    pub passed: bool,
+}
+
+// What is said of a circuit that was read. `text` is what it was read from, and `before` the number of lines before that.
+pub fn answer(heap: Global, draft: &Draft, text: &[u8], before: usize) -> Result<Said, fmt::Error>
+    ensures { λ r. ⌜ made r (λ a. Passed-if (drafted (now (draft .entry))) (a .passed)) ⌝ }
 {
-    put_name(out, &draft.name)?;
+    let mut line = String::new(heap);
+    put_name(&mut line, &draft.name)?;
     if let Some(m) = draft.miscount {
-        put_miscount(out, m, before)?;
-        return Ok(false);
+        put_miscount(&mut line, m, before)?;
+        return Ok(Said {
+            line,
+            passed: false,
+        });
     }
-    let verdict = match signoff::pass(&draft.gates, &draft.registers, &draft.times, room) {
+    let mut room = [0; LONGEST_PATH];
+    let verdict = match signoff::pass(&draft.gates, &draft.registers, &draft.times, &mut room) {
         Ok(verdict) => verdict,
         Err(refusal) => {
-            put_refusal(out, draft, refusal, text, before)?;
-            return Ok(false);
+            put_refusal(&mut line, draft, refusal, text, before)?;
+            return Ok(Said {
+                line,
+                passed: false,
+            });
         }
     };
     match verdict {
         Verdict::Passed => {
-            writeln!(out, "passed")?;
-            Ok(true)
+            writeln!(line, "passed")?;
+            Ok(Said { line, passed: true })
         }
         Verdict::TooLate(miss) => {
-            put_miss(out, "too late", miss, room)?;
-            Ok(false)
+            put_miss(&mut line, "too late", miss, &room)?;
+            Ok(Said {
+                line,
+                passed: false,
+            })
         }
         Verdict::TooEarly(miss) => {
-            put_miss(out, "too early", miss, room)?;
-            Ok(false)
+            put_miss(&mut line, "too early", miss, &room)?;
+            Ok(Said {
+                line,
+                passed: false,
+            })
         }
     }
 }

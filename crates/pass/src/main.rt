@@ -35,9 +35,6 @@ status is 1 in any case.";
 
 const VERSION: &str = "pass (muleminute) 0.1.0";
 
-// As many numbers as a path can have: a register, and two for each gate.
-const LONGEST_PATH: usize = 32_769;
-
 // What was found so far.
 #[derive(Clone, Copy)]
 struct Tally {
@@ -89,7 +86,6 @@ fn pass_text(
     rt: &LibcRuntime,
     path: &str,
     bytes: &[u8],
-    room: &mut [u32],
     mut tally: Tally,
 ) -> Result<Tally, AnyError> {
     let heap = rt.alloc();
@@ -101,7 +97,9 @@ fn pass_text(
         match text::read(heap, rest) {
             Ok(Some(read)) => {
                 some = true;
-                if !answer::answer(&mut out, &read.draft, rest, before, room)? {
+                let said = answer::answer(heap, &read.draft, rest, before)?;
+                out.push_str(said.line.as_str())?;
+                if !said.passed {
                     tally.passed = false;
                 }
                 before = before.saturating_add(read.next).saturating_sub(1);
@@ -129,7 +127,7 @@ fn pass_text(
 
 fn pass_file(rt: &LibcRuntime, path: &str, mut tally: Tally) -> Result<Tally, AnyError> {
     match read_all(rt, path) {
-        Ok(bytes) => pass_text(rt, path, &bytes, &mut [0; LONGEST_PATH], tally),
+        Ok(bytes) => pass_text(rt, path, &bytes, tally),
         Err(e) => {
             eprintln!(rt, "pass: {path}: {e}")?;
             tally.sound = false;
