@@ -1,5 +1,7 @@
 // What is said of a circuit that was read.
+ghost use mathlib.Core.Path.{_≡_};
 ghost use Rattle.std.specs.Vec.{made};
+ghost use Rattle.std.specs.declared.option.Option.the-variants.{None};
 ghost use Rattle.text.specs.Meaning.{drafted};
 ghost use Rattle.answer.specs.Said.{Passed-if};
 use circuit::Refusal;
@@ -124,19 +126,11 @@ pub struct Said {
     pub passed: bool,
 }
 
-// What is said of a circuit that was read. `text` is what it was read from, and `before` the number of lines before that.
-pub fn answer(heap: Global, draft: &Draft, text: &[u8], before: usize) -> Result<Said, fmt::Error>
+// The word on a circuit whose lines all have their count of numbers, put behind its name.
+fn judge(mut line: String, draft: &Draft, text: &[u8], before: usize) -> Result<Said, fmt::Error>
+    requires { ⌜ now draft .miscount ≡ None ⌝ }
     ensures { λ r. ⌜ made r (λ a. Passed-if (drafted (now (draft .entry))) (a .passed)) ⌝ }
 {
-    let mut line = String::new(heap);
-    put_name(&mut line, &draft.name)?;
-    if let Some(m) = draft.miscount {
-        put_miscount(&mut line, m, before)?;
-        return Ok(Said {
-            line,
-            passed: false,
-        });
-    }
     let mut room = [0; LONGEST_PATH];
     let verdict = match signoff::pass(&draft.gates, &draft.registers, &draft.times, &mut room) {
         Ok(verdict) => verdict,
@@ -168,4 +162,20 @@ pub fn answer(heap: Global, draft: &Draft, text: &[u8], before: usize) -> Result
             })
         }
     }
+}
+
+// What is said of a circuit that was read. `text` is what it was read from, and `before` the number of lines before that.
+pub fn answer(heap: Global, draft: &Draft, text: &[u8], before: usize) -> Result<Said, fmt::Error>
+    ensures { λ r. ⌜ made r (λ a. Passed-if (drafted (now (draft .entry))) (a .passed)) ⌝ }
+{
+    let mut line = String::new(heap);
+    put_name(&mut line, &draft.name)?;
+    if let Some(m) = draft.miscount {
+        put_miscount(&mut line, m, before)?;
+        return Ok(Said {
+            line,
+            passed: false,
+        });
+    }
+    judge(line, draft, text, before)
 }
