@@ -198,28 +198,32 @@ fn pass_files(rt: &LibcRuntime) -> Result<Tally, AnyError> {
     Ok(tally)
 }
 
-fn run(rt: &LibcRuntime) -> Result<(), AnyError> {
+// Whether the program ends with status 0.
+fn run(rt: &LibcRuntime) -> Result<bool, AnyError> {
     let o = parse(rt)?;
     if o.help {
         println!(rt, "{USAGE}\n\n{HELP}")?;
-        return Ok(());
+        return Ok(true);
     }
     if o.version {
         println!(rt, "{VERSION}")?;
-        return Ok(());
+        return Ok(true);
     }
     if o.unknown || o.files == 0 {
         eprintln!(rt, "{USAGE}")?;
-        return Err("usage".into());
+        return Ok(false);
     }
     let tally = pass_files(rt)?;
-    if tally.sound && (tally.passed || o.exit_zero) {
-        Ok(())
-    } else {
-        Err("not all are passed".into())
-    }
+    Ok(tally.sound && (tally.passed || o.exit_zero))
 }
 
 fn main(rt: LibcRuntime) -> Result<(), AnyError> {
-    run(&rt)
+    match run(&rt) {
+        Ok(true) => Ok(()),
+        Ok(false) => Err("not all is passed".into()),
+        Err(e) => {
+            let _ = eprintln!(rt, "pass: {e}");
+            Err(e)
+        }
+    }
 }
