@@ -1,4 +1,6 @@
 // What is said of a circuit that was read.
+#![tactic(auto)]
+
 ghost use Rattle.std.specs.Prelude.{◌≡◌, IfOk, None};
 ghost use Rattle.text.specs.Meaning.{drafted};
 ghost use Rattle.answer.specs.Said.{PassedIf};

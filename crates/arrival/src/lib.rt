@@ -1,4 +1,6 @@
 // Latest and earliest arrival times of the signals of a circuit.
+#![tactic(auto)]
+
 ghost use Rattle.arrival.specs.Arrival.{Monotone, Shifts, Agrees};
 ghost use Rattle.arrival.specs.Window.{Window};
 

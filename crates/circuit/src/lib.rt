@@ -1,4 +1,6 @@
 // Gates, tables and clocked circuits as lent numbers, looked at before anything is computed from them.
+#![tactic(auto)]
+
 mod checks;
 mod circuit;
 mod listed;

@@ -1,4 +1,6 @@
 // When the clock comes to a register by a script, and what the register takes, cycle by cycle.
+#![tactic(auto)]
+
 ghost use Rattle.std.specs.Prelude.{◌≡◌, ℕ, suc, ◌+◌, ◌*◌, ◌%◌, ◌^◌, ◌<◌, ◌≤◌, max, List, length};
 ghost use Rattle.circuit.specs.Lent.{early, late, period};
 ghost use Rattle.script.specs.Told.{take_told, clock_between, clock_told};

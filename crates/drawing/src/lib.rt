@@ -1,4 +1,6 @@
 // What a circuit does when nothing takes time.
+#![tactic(auto)]
+
 ghost use Rattle.std.specs.Prelude.{◌≡◌, ℕ, ◌+◌, ◌*◌, ◌/◌, ◌%◌, ◌<◌, ◌≤◌, false, length, MatchResult, slice_index};
 ghost use Rattle.circuit.specs.Filled.{Filled};
 ghost use Rattle.circuit.specs.Gate.{output};

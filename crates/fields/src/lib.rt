@@ -1,4 +1,6 @@
 // The fields of a line: numbers, and a table by its name; and what a text should have had where it is at fault.
+#![tactic(auto)]
+
 ghost use Rattle.std.specs.Prelude.{◌≡◌, ℕ, ◌+◌, ◌<◌, ◌≤◌, true, false, length, MatchResult};
 ghost use Rattle.lines.specs.Words.{words};
 ghost use Rattle.fields.specs.Fields.{place_from, named, fields, FrontField, FieldsRead};

@@ -1,4 +1,6 @@
 // Whether all that a script tells lies within the bounds of a circuit.
+#![tactic(auto)]
+
 ghost use Rattle.std.specs.Prelude.{◌≡◌, ℕ, ◌+◌, ◌*◌, ◌^◌, ◌<◌, ◌≤◌, true, false, List, length, if◌then◌else◌, Some, MatchResult};
 ghost use Rattle.circuit.specs.Lent.{register_count, period};
 ghost use Rattle.script.specs.Told.{DelayFits, Fits, clock_told};

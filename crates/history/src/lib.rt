@@ -1,4 +1,6 @@
 // The bits of signals at the last moments.
+#![tactic(auto)]
+
 mod history;
 mod keeping;
 

@@ -1,4 +1,6 @@
 // pass: passes the circuits of files, or names what stands in their way.
+#![tactic(auto)]
+
 use anyhow::anyhow;
 use fields::{Expected, Fault};
 use std::io::{Read, Write};

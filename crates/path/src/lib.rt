@@ -1,4 +1,6 @@
 // The path by which a signal's latest or earliest time is reached.
+#![tactic(auto)]
+
 ghost use Rattle.std.specs.Prelude.{◌≡◌, ℕ, ◌+◌, ◌-◌, ◌*◌, ◌<◌, ◌≤◌, true, false, length, if◌then◌else◌, MatchResult, slice_set};
 ghost use Rattle.circuit.specs.Lent.{gate_count, register_count, signal_count, gate_in, drawn};
 ghost use Rattle.arrival.specs.Arrival.{delay};

@@ -1,4 +1,6 @@
 // What passing a clocked circuit promises: theorems, each the contract of a function.
+#![tactic(auto)]
+
 ghost use Rattle.promise.specs.Promise.{Promise, InWindow, Narrower, Slower, CanGo};
 
 // After every cycle of every run of a passed machine every register holds the drawing's bit.

@@ -1,4 +1,6 @@
 // Why numbers are turned away: the first refusal that applies, and what exactly is wrong.
+#![tactic(auto)]
+
 ghost use Rattle.std.specs.Prelude.{◌≡◌, ℕ, ◌+◌, ◌%◌, ◌<◌, length, MatchOption};
 ghost use Rattle.circuit.specs.Lent.{gate_count, register_count, signal_count};
 ghost use Rattle.circuit.specs.Whole.{Whole, Placed, Ranged, Tied, Small, OutputOrdered};

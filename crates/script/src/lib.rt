@@ -1,4 +1,6 @@
 // What a bench is told: statements, and choices made from a number for what they leave open.
+#![tactic(auto)]
+
 pub mod chance;
 mod entry;
 mod filling;

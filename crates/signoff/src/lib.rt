@@ -1,4 +1,6 @@
 // Passing a clocked circuit, or naming what stands in its way.
+#![tactic(auto)]
+
 ghost use Rattle.std.specs.Prelude.{◌≡◌, ℕ, ◌+◌, ◌<◌, ◌≤◌, length};
 ghost use Rattle.circuit.specs.Lent.{register_count};
 ghost use Rattle.circuit.specs.Refused.{AllOrFirst};

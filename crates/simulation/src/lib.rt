@@ -1,4 +1,6 @@
 // A circuit gone through time, moment by moment: the run that it makes from what it is told.
+#![tactic(auto)]
+
 ghost use Rattle.simulation.specs.Theorems.{SimulatedIsRun, SimulatedAsDrawn};
 
 // A simulated run is one of the runs that passing speaks of, of a machine that is passed or not.

@@ -1,4 +1,6 @@
 // What benchmarks written in C call.
+#![tactic(auto)]
+
 ghost use Rattle.std.specs.Prelude.{◌≡◌, OnOk};
 ghost use Rattle.circuit.specs.Whole.{Whole};
 

@@ -1,4 +1,6 @@
 // One moment of a circuit that is let go: what its registers show and take, and what its gates make of that.
+#![tactic(auto)]
+
 ghost use Rattle.std.specs.Prelude.{◌≡◌, ◌*◌, ◌≤◌, length, MatchResult};
 ghost use Rattle.circuit.specs.Lent.{gate_count, register_count};
 ghost use Rattle.step.specs.Lent.{TooFew};

@@ -1,4 +1,6 @@
 // What is told moment by moment.
+#![tactic(auto)]
+
 mod clocks;
 mod making;
 mod moments;

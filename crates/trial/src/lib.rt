@@ -1,4 +1,6 @@
 // A circuit on the bench: gone through time, cycle by cycle, with what a script tells.
+#![tactic(auto)]
+
 mod going;
 mod preparing;
 mod room;

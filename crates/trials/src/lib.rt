@@ -1,4 +1,6 @@
 // Examples that are run: tables, circuits that are looked at, the drawing.
+#![tactic(auto)]
+
 #[cfg(test)]
 mod arrival_trials;
 #[cfg(test)]

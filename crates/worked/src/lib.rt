@@ -1,4 +1,6 @@
 // Worked examples as theorems.
+#![tactic(auto)]
+
 ghost use Rattle.worked.specs.Rows.{RowsHave};
 ghost use Rattle.worked.specs.Weaker.{WeakerTestsFail};
 

@@ -5,5 +5,5 @@ use Rattle.lines.proofs.word.Goals as goal
 
 pub returns : goal.returns
 returns c =
-    let told = c.split-at.ensures in
+    let told = c.split_at.ensures in
     first_word _ _ _ _ _ _ c.blanks.ensures.count (take_rest c.args.s.now c.blanks.result) c.inked.ensures.count c.inked.ensures.within told.front told.back

@@ -32,5 +32,5 @@ returns-in-Some-first-large-2 c =
 pub returns : goal.returns
 returns c =
     let s : (p : ℕ) → Small c.args.gates.now c.args.registers.now c.args.times.now p =
-    all_small _ _ _ c.in-default.ensures c.in-default-first-large.ensures c.in-default-first-large-2.ensures in
+    all_small _ _ _ c.in_default.ensures c.in_default-first_large.ensures c.in_default-first_large-2.ensures in
     search rules
