@@ -8,4 +8,4 @@ loop-i-init c = no_cycle _ _ (sound_in _ _ c.args.circuit.placed c.args.circuit.
 pub loop-i-preserved : goal.loop-i-preserved
 loop-i-preserved c =
     one_more_cycle _ _ (sound_in _ _ c.args.circuit.placed c.args.circuit.ranged) (λ r h. (c.args.circuit.tied r h).0) _ _ _ _ _ _ _
-    c.loop-i.invariant c.one-cycle.ensures.settled c.one-cycle.ensures.taken
+    c.loop-i.invariant c.one_cycle.ensures.settled c.one_cycle.ensures.taken

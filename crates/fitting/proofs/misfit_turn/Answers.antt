@@ -5,11 +5,11 @@ use Rattle.fitting.proofs.misfit_turn.Goals as goal
 use Rattle.fitting.proofs.misfit_turn.Goals.{then-e-r+then-when-gt0, else-e-r}
 
 pub loop-i-init : goal.loop-i-init
-loop-i-init c = record { clock_is = c.first-clock-clock.ensures.value; small = omega arith; bound = omega (arith, c.first-clock-clock.ensures.bound); to_come = λ j l h. omega arith; so_far = λ i l. absurd (omega arith) }
+loop-i-init c = record { clock_is = c.first_clock-clock.ensures.value; small = omega arith; bound = omega (arith, c.first_clock-clock.ensures.bound); to_come = λ j l h. omega arith; so_far = λ i l. absurd (omega arith) }
 
 pub loop-i-preserved : goal.loop-i-preserved
 loop-i-preserved c =
-    let order : Ordered c.as-slice-entries.result.now = rw c.as-slice-entries.ensures.value c.args.script.now.clocks_ordered in
+    let order : Ordered c.as_slice-entries.result.now = rw c.as_slice-entries.ensures.value c.args.script.now.clocks_ordered in
     elim c.if-e-r.branch [
       | then-e-r+then-when-gt0 w ↦ rw (w.first-is, w.n-is, w.clock_is)
           (looked_at c.loop-i.invariant _ _ order c.loop-i-test.true w.if-e-r.true w.if-when-gt0.true (omega arith) w.walk-clock.ensures.value w.walk-clock.ensures.bound w.noted-first.ensures)
@@ -17,4 +17,4 @@ loop-i-preserved c =
     ]
 
 pub returns : goal.returns
-returns c = all_walked c.loop-i.invariant _ c.as-slice-entries.ensures.value (omega arith)
+returns c = all_walked c.loop-i.invariant _ c.as_slice-entries.ensures.value (omega arith)

@@ -9,7 +9,7 @@ loop-r-init c = turns_none c.args.script.now c.args.circuit.gates.now c.args.cir
 pub loop-r-preserved : goal.loop-r-preserved
 loop-r-preserved c =
     let k = c.args.circuit in
-    turns_more c.args.script.now k.gates.now k.registers.now k.times.now c.loop-r.r _ _ _ c.earlier-first.ensures c.loop-r.invariant c.misfit-turn.ensures
+    turns_more c.args.script.now k.gates.now k.registers.now k.times.now c.loop-r.r _ _ _ c.earlier-first.ensures c.loop-r.invariant c.misfit_turn.ensures
 
 pub returns : goal.returns
 returns c = let e : c.loop-r.r ≡ register_count c.args.circuit.registers.now = omega arith in rw e at c.loop-r.invariant

@@ -9,5 +9,5 @@ loop-n-preserved c =
     let k = c.args.circuit in
     let p = small_times k.gates.now k.registers.now k.times.now k.small 0 in
     let far = mul-le (c.loop-n.n + 1) (period k.times.now) (2 ^ 32) 1000000 (omega arith) p in
-    let b = c.next-clock-c.ensures.bound in
-    (c.next-clock-c.ensures.value (record { cycle = omega arith; begins = omega arith; clock = omega (arith, c.loop-n.invariant.1) }) c.loop-n.n (add-one c.loop-n.n) c.loop-n.invariant.0, omega (arith, c.loop-n.invariant.1))
+    let b = c.next_clock-c.ensures.bound in
+    (c.next_clock-c.ensures.value (record { cycle = omega arith; begins = omega arith; clock = omega (arith, c.loop-n.invariant.1) }) c.loop-n.n (add-one c.loop-n.n) c.loop-n.invariant.0, omega (arith, c.loop-n.invariant.1))

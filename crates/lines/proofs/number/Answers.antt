@@ -12,8 +12,8 @@ loop-i-init c = none_yet _
 pub loop-i-preserved : goal.loop-i-preserved
 loop-i-preserved c = search (rules, more)
 
-pub returns-then-not-is-blank : goal.returns-then-not-is-blank
-returns-then-not-is-blank c = strange c.loop-i.invariant (search rules) (search (rules, not_from_false)) (search rules)
+pub returns-then-not-is_blank : goal.returns-then-not-is_blank
+returns-then-not-is_blank c = strange c.loop-i.invariant (search rules) (search (rules, not_from_false)) (search rules)
 
 pub returns-then-i-eq0 : goal.returns-then-i-eq0
 returns-then-i-eq0 c = let z : prefix_len ink (drop c.loop-i.i c.args.s.now) ≡ 0 = search (rules, prefix_len-drop_no, not_from_true) in empty c.args.s.now (omega (arith, c.loop-i.invariant.inky))
@@ -24,8 +24,8 @@ returns-then-n-gt4294967295 c = let z : prefix_len ink (drop c.loop-i.i c.args.s
 pub returns-then-b-lt48 : goal.returns-then-b-lt48
 returns-then-b-lt48 c = let z : prefix_len ink (drop c.loop-i.i c.args.s.now) ≡ 0 = search (rules, prefix_len-drop_no, not_from_true) in good c.loop-i.invariant (search rules) z (search rules) (search rules)
 
-pub returns-then-is-empty : goal.returns-then-is-empty
-returns-then-is-empty c = empty c.args.s.now (let l : length c.args.s.now ≡ 0 = search rules in omega (arith, prefix_len-le-length ink c.args.s.now))
+pub returns-then-is_empty : goal.returns-then-is_empty
+returns-then-is_empty c = empty c.args.s.now (let l : length c.args.s.now ≡ 0 = search rules in omega (arith, prefix_len-le-length ink c.args.s.now))
 
 pub returns-then-n-gt4294967295-2 : goal.returns-then-n-gt4294967295-2
 returns-then-n-gt4294967295-2 c = let z : prefix_len ink (drop c.loop-i.i c.args.s.now) ≡ 0 = search (rules, prefix_len-drop_all) in large c.loop-i.invariant (search rules) z (search rules) (search rules)

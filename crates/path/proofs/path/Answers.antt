@@ -14,7 +14,7 @@ returns-then-out-len c =
     let w = told c.args.edge (drawn m.gates.now m.registers.now) (source c.args.edge m.registers.now m.times.now) c.args.signal in
     let first = told_lent_first c.args.edge m.gates.now m.registers.now m.times.now (sound_in _ _ m.placed m.ranged) c.args.signal (omega arith) in
     let l = written_length (register_count m.registers.now) w.1 in
-    let e : 1 + 2 * c.gates-on-count.result ≡ length (written (register_count m.registers.now) w) = omega (arith, c.gates-on-count.ensures.steps) in
+    let e : 1 + 2 * c.gates_on-count.result ≡ length (written (register_count m.registers.now) w) = omega (arith, c.gates_on-count.ensures.steps) in
     (inr (omega arith, (w.0, w.1, first, omega arith, ap NoRoom e)), refl)
 
 pub returns : goal.returns
@@ -23,5 +23,5 @@ returns c =
     let w = told c.args.edge (drawn m.gates.now m.registers.now) (source c.args.edge m.registers.now m.times.now) c.args.signal in
     let first = told_lent_first c.args.edge m.gates.now m.registers.now m.times.now (sound_in _ _ m.placed m.ranged) c.args.signal (omega arith) in
     let l = written_length (register_count m.registers.now) w.1 in
-    let e : 1 + 2 * c.gates-on-count.result ≡ length (written (register_count m.registers.now) w) = omega (arith, c.gates-on-count.ensures.steps) in
+    let e : 1 + 2 * c.gates_on-count.result ≡ length (written (register_count m.registers.now) w) = omega (arith, c.gates_on-count.ensures.steps) in
     (omega arith, (w.0, w.1, first, e, c.put.ensures))

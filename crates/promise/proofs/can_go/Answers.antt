@@ -2,4 +2,4 @@ use Rattle.promise.proofs.Going as laws
 use Rattle.promise.proofs.can_go.Goals as goal
 
 pub returns : goal.returns
-returns c = laws.can-go
+returns c = laws.can_go

@@ -10,7 +10,7 @@ returns c =
     let passed : Passed (machine_in m.gates.now m.registers.now m.times.now) =
     record {
       formed = formed_in m.gates.now m.registers.now m.times.now m.placed m.ranged m.tied m.ordered;
-      setup_kept = c.in-default.ensures;
-      hold_kept = c.in-default-first-early.ensures;
+      setup_kept = c.in_default.ensures;
+      hold_kept = c.in_default-first_early.ensures;
     } in
     (passed, promise_kept _ passed, refl)

@@ -5,8 +5,8 @@ use Rattle.arrival.specs.declared.edge.Edge.TheVariants.{Late}
 use Rattle.arrival.proofs.Turns.{time_small}
 use Rattle.signoff.proofs.late_sums.Goals as goal
 
-pub overflow-add-arrival : goal.overflow-add-arrival
-overflow-add-arrival c =
+pub overflow_add-arrival : goal.overflow_add-arrival
+overflow_add-arrival c =
     let m = c.args.a.circuit in
     let signal = get_or m.registers.now (3 * c.args.r) 0 in
     let inside = (m.tied c.args.r c.requires).0 in

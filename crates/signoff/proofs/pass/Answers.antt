@@ -6,4 +6,4 @@ pub returns : goal.returns
 returns c =
     let n = c.new.ensures.circuit in
     let o = c.new-circuit.ensures in
-    answered_through _ _ _ _ _ _ _ _ c.judge.result (n.0 ∙ o.0) (n.1 ∙ o.1) (n.2 ∙ o.2) c.in-ok-look.ensures c.judge.ensures
+    answered_through _ _ _ _ _ _ _ _ c.judge.result (n.0 ∙ o.0) (n.1 ∙ o.1) (n.2 ∙ o.2) c.in_ok-look.ensures c.judge.ensures

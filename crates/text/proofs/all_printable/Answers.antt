@@ -2,8 +2,8 @@ use Rattle.std.proofs.Common.{sym, ◌∙◌, rules}
 use Rattle.text.proofs.MeaningLaws.{unprintable, printable_more, printable_all}
 use Rattle.text.proofs.all_printable.Goals as goal
 
-pub returns-then-not-is-printable : goal.returns-then-not-is-printable
-returns-then-not-is-printable c = search (rules, unprintable)
+pub returns-then-not-is_printable : goal.returns-then-not-is_printable
+returns-then-not-is_printable c = search (rules, unprintable)
 
 pub loop-b-preserved : goal.loop-b-preserved
 loop-b-preserved c = search (rules, printable_more)

@@ -7,15 +7,15 @@ pub returns-then-not-same : goal.returns-then-not-same
 returns-then-not-same c =
     inr (c.loop-rest.invariant.0 ∙ other_outside _ (c.line.ensures.some (search rules)) c.bare.ensures c.word.ensures (search rules) c.if-not-same.ensures)
 
-pub returns-in-err-begin : goal.returns-in-err-begin
-returns-in-err-begin c =
+pub returns-in_err-begin : goal.returns-in_err-begin
+returns-in_err-begin c =
     let p = err_from_is_err_and c.from-residual.result c.from-residual.ensures.1 in
     let o = c.loop-rest.invariant.0 ∙ opens _ (c.line.ensures.some (search rules)) c.bare.ensures c.word.ensures (search rules) c.if-not-same.ensures in
-    rw (p.1, p.2) (elim c.in-err-begin.ensures [ inl memory ↦ inl memory | inr e ↦ inr (o ∙ e) ])
+    rw (p.1, p.2) (elim c.in_err-begin.ensures [ inl memory ↦ inl memory | inr e ↦ inr (o ∙ e) ])
 
-pub returns-then-not-is-empty : goal.returns-then-not-is-empty
-returns-then-not-is-empty c =
-    let e = c.in-ok-begin.ensures in (
+pub returns-then-not-is_empty : goal.returns-then-not-is_empty
+returns-then-not-is_empty c =
+    let e = c.in_ok-begin.ensures in (
       c.loop-rest.invariant.0 ∙ opens _ (c.line.ensures.some (search rules)) c.bare.ensures c.word.ensures (search rules) c.if-not-same.ensures ∙ e.0,
       omega (arith, e.1, c.line.ensures.less (search rules)),
     )

@@ -8,8 +8,8 @@ pub loop-k-init : goal.loop-k-init
 loop-k-init c =
     (start Late _ _ c.requires.few c.requires.small c.requires.sound _ c.requires.late, start Early _ _ c.requires.few c.requires.small c.requires.sound _ c.requires.early)
 
-pub time-at-last-requires : goal.time-at-last-requires
-time-at-last-requires c =
+pub time_at-last-requires : goal.time_at-last-requires
+time_at-last-requires c =
     let b = inputs_before _ _ c.requires.sound c.loop-k.k c.loop-k-test.true in
     record {
       place = c.loop-k-test.true;
@@ -18,8 +18,8 @@ time-at-last-requires c =
       fits = ready Late _ _ c.requires.few c.requires.small c.requires.sound _ c.requires.late c.loop-k.k c.loop-k-test.true _ c.loop-k.invariant.0;
     }
 
-pub time-at-first-requires : goal.time-at-first-requires
-time-at-first-requires c =
+pub time_at-first-requires : goal.time_at-first-requires
+time_at-first-requires c =
     let b = inputs_before _ _ c.requires.sound c.loop-k.k c.loop-k-test.true in
     record {
       place = c.loop-k-test.true;
@@ -30,6 +30,6 @@ time-at-first-requires c =
 
 pub loop-k-preserved : goal.loop-k-preserved
 loop-k-preserved c = (
-  turn Late _ _ c.requires.few c.requires.small c.requires.sound _ c.requires.late c.loop-k.k c.loop-k-test.true _ c.loop-k.invariant.0 _ (omega arith) c.time-at-last.ensures,
-  turn Early _ _ c.requires.few c.requires.small c.requires.sound _ c.requires.early c.loop-k.k c.loop-k-test.true _ c.loop-k.invariant.1 _ (omega arith) c.time-at-first.ensures,
+  turn Late _ _ c.requires.few c.requires.small c.requires.sound _ c.requires.late c.loop-k.k c.loop-k-test.true _ c.loop-k.invariant.0 _ (omega arith) c.time_at-last.ensures,
+  turn Early _ _ c.requires.few c.requires.small c.requires.sound _ c.requires.early c.loop-k.k c.loop-k-test.true _ c.loop-k.invariant.1 _ (omega arith) c.time_at-first.ensures,
 )

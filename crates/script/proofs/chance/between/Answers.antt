@@ -11,10 +11,10 @@ same h low high most e = ap₂ (λ (a b : ℕ). low + (a * (b + 1)) / 2 ^ 32) (a
 
 pub returns : goal.returns
 returns c =
-    let e = same c.args.h c.args.low c.args.high c.min-most.result (c.min-most.ensures ∙ ap (λ (n : ℕ). min n (2 ^ 32 - 1)) c.saturating-sub.ensures) in
+    let e = same c.args.h c.args.low c.args.high c.min-most.result (c.min-most.ensures ∙ ap (λ (n : ℕ). min n (2 ^ 32 - 1)) c.saturating_sub.ensures) in
     record { value = e; low = omega arith; high = omega (arith, e, between_most c.args.h c.args.low c.args.high) }
 
-pub overflow-add-result-2 : goal.overflow-add-result-2
-overflow-add-result-2 c =
-    let e = same c.args.h c.args.low c.args.high c.min-most.result (c.min-most.ensures ∙ ap (λ (n : ℕ). min n (2 ^ 32 - 1)) c.saturating-sub.ensures) in
+pub overflow_add-result-2 : goal.overflow_add-result-2
+overflow_add-result-2 c =
+    let e = same c.args.h c.args.low c.args.high c.min-most.result (c.min-most.ensures ∙ ap (λ (n : ℕ). min n (2 ^ 32 - 1)) c.saturating_sub.ensures) in
     omega (arith, e, between_most c.args.h c.args.low c.args.high)

@@ -5,7 +5,7 @@ use Rattle.script.proofs.finding.said_in.Goals as goal
 use Rattle.script.proofs.finding.said_in.Goals.{then-e-who, else-e-who}
 
 pub loop-i-init : goal.loop-i-init
-loop-i-init c = sym (last_none _ _ _ (λ i l. let b = c.first-in-i.ensures.before i l in other_cycle c.args.entries.now i _ _ (λ e. omega arith)))
+loop-i-init c = sym (last_none _ _ _ (λ i l. let b = c.first_in-i.ensures.before i l in other_cycle c.args.entries.now i _ _ (λ e. omega arith)))
 
 pub loop-i-preserved : goal.loop-i-preserved
 loop-i-preserved c = elim c.if-e-who.branch [
@@ -16,6 +16,6 @@ loop-i-preserved c = elim c.if-e-who.branch [
 -- from here on all statements are of later cycles
 pub returns-then-e-n : goal.returns-then-e-n
 returns-then-e-n c =
-    let after = c.first-in-i.ensures.after c.loop-i.i c.loop-i.auto.i c.loop-i-test.true in
+    let after = c.first_in-i.ensures.after c.loop-i.i c.loop-i.auto.i c.loop-i-test.true in
     c.loop-i.invariant
     ∙ sym (last_rest _ _ _ _ (omega arith) (λ j l h. let order = c.requires c.loop-i.i j l h in other_cycle c.args.entries.now j _ _ (λ e. c.if-e-n.true (omega arith))))

@@ -7,7 +7,7 @@ pub loop-k-init : goal.loop-k-init
 loop-k-init c = none_yet _
 
 pub loop-k-preserved : goal.loop-k-preserved
-loop-k-preserved c = one_more c.loop-k.k c.loop-k-test.true c.gate-now-bit.ensures c.put.ensures c.loop-k.invariant
+loop-k-preserved c = one_more c.loop-k.k c.loop-k-test.true c.gate_now-bit.ensures c.put.ensures c.loop-k.invariant
 
 pub returns : goal.returns
 returns c = let e : c.loop-k.k ≡ gate_count c.args.circuit.gates.now = omega arith in rw e at c.loop-k.invariant

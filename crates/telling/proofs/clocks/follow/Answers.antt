@@ -12,7 +12,7 @@ loop-r-preserved c =
     let k = c.args.circuit in
     elim c.if-stood-r.branch [
       | then-stood-r w ↦ rw (w.stood-is, w.clocks-is, w.takes-is)
-          (next_followed c.args.script.now k.gates.now k.registers.now k.times.now c.args.cycles.now c.loop-r.r c.loop-r.invariant (omega arith) w.if-stood-r.true w.go-on.ensures)
+          (next_followed c.args.script.now k.gates.now k.registers.now k.times.now c.args.cycles.now c.loop-r.r c.loop-r.invariant (omega arith) w.if-stood-r.true w.go_on.ensures)
       | else-stood-r w ↦ rw (w.stood-is, w.clocks-is, w.takes-is)
           (same_followed c.args.script.now k.gates.now k.registers.now k.times.now c.args.cycles.now c.loop-r.r c.loop-r.invariant w.if-stood-r.false)
     ]

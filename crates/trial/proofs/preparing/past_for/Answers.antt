@@ -8,4 +8,4 @@ pub returns : goal.returns
 returns c =
     let k = c.args.circuit in
     made_so c.new.result _ (Wide (machine_in k.gates.now k.registers.now k.times.now))
-    (λ h fresh. wide_enough k.gates.now k.registers.now k.times.now _ _ _ h fresh refl c.max-back.ensures c.greatest-delay.ensures) c.new.ensures
+    (λ h fresh. wide_enough k.gates.now k.registers.now k.times.now _ _ _ h fresh refl c.max-back.ensures c.greatest_delay.ensures) c.new.ensures

@@ -4,19 +4,19 @@ use Rattle.trial.proofs.preparing.room_for.Goals as goal
 
 pub returns : goal.returns
 returns c =
-    let bits = c.in-ok-bits.ensures in
-    let cycles = c.in-ok-cycles.ensures in
-    let zero : (q : ℕ) → ◌≡◌ {A = ℕ} (get_or (vec_items c.in-ok-cycles.cycles) q 0) 0 = λ q. rw (cycles.items-if-clones-equal (λ y e. e)) (all_same _ q 0) in
+    let bits = c.in_ok-bits.ensures in
+    let cycles = c.in_ok-cycles.ensures in
+    let zero : (q : ℕ) → ◌≡◌ {A = ℕ} (get_or (vec_items c.in_ok-cycles.cycles) q 0) 0 = λ q. rw (cycles.items-if-clones-equal (λ y e. e)) (all_same _ q 0) in
     record {
       roomy = record {
-        wide = c.in-ok-past.ensures;
+        wide = c.in_ok-past.ensures;
         rows = bits.rows;
-        cycles_each = omega (arith, cycles.len, c.in-ok-cycles.cycles.ok.0);
-        latest = c.latest-clock-latest.ensures.0;
+        cycles_each = omega (arith, cycles.len, c.in_ok-cycles.cycles.ok.0);
+        latest = c.latest_clock-latest.ensures.0;
         apart = bits.apart;
-        small = c.latest-clock-latest.ensures.1;
+        small = c.latest_clock-latest.ensures.1;
       };
       bits = bits.start;
       cycles = zero;
-      begins = c.in-ok-teller.ensures;
+      begins = c.in_ok-teller.ensures;
     }

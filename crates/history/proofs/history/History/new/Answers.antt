@@ -5,7 +5,7 @@ use Rattle.history.proofs.history.History.new.Goals as goal
 
 pub returns : goal.returns
 returns c =
-    let b = c.bits-of-log.ensures in
-    let v = c.in-ok-words.ensures in
-    let s = shl_whole c.args.rows 32 c.bits-of-log.result 64 (omega arith) (omega (arith, b.low)) in
-    fresh_of _ c.args.rows c.args.back c.div-ceil.result refl b.above b.least (v.items-if-clones-equal (λ y e. e)) v.len (omega (arith, c.div-ceil.ensures, s))
+    let b = c.bits_of-log.ensures in
+    let v = c.in_ok-words.ensures in
+    let s = shl_whole c.args.rows 32 c.bits_of-log.result 64 (omega arith) (omega (arith, b.low)) in
+    fresh_of _ c.args.rows c.args.back c.div_ceil.result refl b.above b.least (v.items-if-clones-equal (λ y e. e)) v.len (omega (arith, c.div_ceil.ensures, s))

@@ -4,8 +4,8 @@ use Rattle.text.specs.Meaning.{drafted, with_gates, with_registers, with_times}
 use Rattle.text.proofs.MeaningLaws.{no_word, at_word, added, ended}
 use Rattle.text.proofs.draft.Draft.statement.Goals as goal
 
-pub returns-then-is-empty : goal.returns-then-is-empty
-returns-then-is-empty c = no_word c.word.ensures _ _ (search rules)
+pub returns-then-is_empty : goal.returns-then-is_empty
+returns-then-is_empty c = no_word c.word.ensures _ _ (search rules)
 
 pub returns-in-Gate : goal.returns-in-Gate
 returns-in-Gate c = added _ (with_gates (drafted c.args.self.now)) _ _ _ _ _ _ _ _ (at_word c.word.ensures _ _ Gate (search rules) c.in-Gate.ensures) c.add.ensures
