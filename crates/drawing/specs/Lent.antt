@@ -11,12 +11,12 @@ abbrev pub bit_at : List Bool → ℕ → Bool
 bit_at xs i = slice_index_or xs i false
 
 -- room of fewer than n places is refused by the length that is needed, and left as it was
-abbrev pub NoRoom : ℕ → (before after : List Bool) → Refusal → Type 0
-NoRoom n before after e = (e ≡ NoRoom n) × (length before < n) × (after ≡ before)
+abbrev pub RoomRefused : ℕ → (before after : List Bool) → Refusal → Type 0
+RoomRefused n before after e = (e ≡ NoRoom n) × (length before < n) × (after ≡ before)
 
 -- room for bits and for signals: the first that is too short is refused by the length that it needs
-abbrev pub NoRooms : (n m : ℕ) → (bits signals : List Bool) → Refusal → Type 0
-NoRooms n m bits signals e = ((length bits < n) × (e ≡ NoRoom n)) ⊎ ((n ≤ length bits) × (length signals < m) × (e ≡ NoRoom m))
+abbrev pub RoomsRefused : (n m : ℕ) → (bits signals : List Bool) → Refusal → Type 0
+RoomsRefused n m bits signals e = ((length bits < n) × (e ≡ NoRoom n)) ⊎ ((n ≤ length bits) × (length signals < m) × (e ≡ NoRoom m))
 
 -- n cycles later, from the bits `before`: the registers hold the drawing's bits, and the signals are those of the last cycle
 pub record Cycled (gates registers : List ℕ) (n : ℕ) (before after signals_before signals_after : List Bool) : Type 0 where

@@ -7,7 +7,7 @@ ghost use Rattle.circuit.specs.Gate.{output};
 ghost use Rattle.circuit.specs.Circuit.{signals, Sound};
 ghost use Rattle.circuit.specs.Lent.{gate_count, register_count, signal_count, circuit_in, drawn, takes};
 ghost use Rattle.drawing.specs.Drawing.{ideal, held, IdealIsSettled};
-ghost use Rattle.drawing.specs.Lent.{bit_at, Cycled, NoRoom, NoRooms};
+ghost use Rattle.drawing.specs.Lent.{bit_at, Cycled, RoomRefused, RoomsRefused};
 
 use circuit::{Circuit, Refusal, table};
 
@@ -45,7 +45,7 @@ fn settle_gates(gates: &[u32], n: usize, signals: &mut [bool])
 pub fn settle(circuit: Circuit<'_>, signals: &mut [bool]) -> Result<(), Refusal>
     ensures { MatchResult result
         (λ _. Filled false (signal_count circuit.entry.gates.now circuit.entry.registers.now) (ideal (drawn circuit.entry.gates.now circuit.entry.registers.now) (bit_at signals.old)) signals.old signals.new)
-        (λ e. NoRoom (signal_count circuit.entry.gates.now circuit.entry.registers.now) signals.old signals.new e) }
+        (λ e. RoomRefused (signal_count circuit.entry.gates.now circuit.entry.registers.now) signals.old signals.new e) }
 {
     let n = circuit.registers.len() / 3;
     let all = n + circuit.gates.len() / 7;
@@ -102,7 +102,7 @@ pub fn cycles(
 ) -> Result<(), Refusal>
     ensures { MatchResult result
         (λ _. Cycled circuit.entry.gates.now circuit.entry.registers.now count bits.old bits.new signals.old signals.new)
-        (λ e. NoRooms (register_count circuit.entry.registers.now) (signal_count circuit.entry.gates.now circuit.entry.registers.now) bits.old signals.old e
+        (λ e. RoomsRefused (register_count circuit.entry.registers.now) (signal_count circuit.entry.gates.now circuit.entry.registers.now) bits.old signals.old e
         × (bits.new ≡ bits.old) × (signals.new ≡ signals.old)) }
 {
     let n = circuit.registers.len() / 3;
@@ -123,7 +123,7 @@ pub fn cycles(
 pub fn cycle(circuit: Circuit<'_>, bits: &mut [bool], signals: &mut [bool]) -> Result<(), Refusal>
     ensures { MatchResult result
         (λ _. Cycled circuit.entry.gates.now circuit.entry.registers.now 1 bits.old bits.new signals.old signals.new)
-        (λ e. NoRooms (register_count circuit.entry.registers.now) (signal_count circuit.entry.gates.now circuit.entry.registers.now) bits.old signals.old e
+        (λ e. RoomsRefused (register_count circuit.entry.registers.now) (signal_count circuit.entry.gates.now circuit.entry.registers.now) bits.old signals.old e
         × (bits.new ≡ bits.old) × (signals.new ≡ signals.old)) }
 {
     cycles(circuit, 1, bits, signals)

@@ -12,7 +12,7 @@ returns-then-is_empty c =
 
 pub returns-in_err-x : goal.returns-in_err-x
 returns-in_err-x c =
-    let p = err_from_is_err_and c.from-residual.result c.from-residual.ensures.1 in
+    let p = err_from_is_err_and c.from_residual.result c.from_residual.ensures.1 in
     rw (p.1, p.2) (bad c.loop-i.invariant (cut _ c.split_at.result.1.now _ _ _ c.blanks.ensures.count c.split_at.ensures.back refl refl) _ (search rules) (some_front _ _ _ c.blanks.ensures.count c.split_at.ensures.back (search rules)) c.in_err-x.ensures)
 
 pub split_at-requires-in-loop-i : goal.split_at-requires-in-loop-i

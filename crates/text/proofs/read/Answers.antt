@@ -9,7 +9,7 @@ returns-then-not-same c =
 
 pub returns-in_err-begin : goal.returns-in_err-begin
 returns-in_err-begin c =
-    let p = err_from_is_err_and c.from-residual.result c.from-residual.ensures.1 in
+    let p = err_from_is_err_and c.from_residual.result c.from_residual.ensures.1 in
     let o = c.loop-rest.invariant.0 ∙ opens _ (c.line.ensures.some (search rules)) c.bare.ensures c.word.ensures (search rules) c.if-not-same.ensures in
     rw (p.1, p.2) (elim c.in_err-begin.ensures [ inl memory ↦ inl memory | inr e ↦ inr (o ∙ e) ])
 

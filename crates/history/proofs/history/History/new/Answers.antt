@@ -8,4 +8,4 @@ returns c =
     let b = c.bits_of-log.ensures in
     let v = c.in_ok-words.ensures in
     let s = shl_whole c.args.rows 32 c.bits_of-log.result 64 (omega arith) (omega (arith, b.low)) in
-    fresh_of _ c.args.rows c.args.back c.div_ceil.result refl b.above b.least (v.items-if-clones-equal (λ y e. e)) v.len (omega (arith, c.div_ceil.ensures, s))
+    fresh_of _ c.args.rows c.args.back c.div_ceil.result refl b.above b.least (v.items_if_clones_equal (λ y e. e)) v.len (omega (arith, c.div_ceil.ensures, s))

@@ -10,4 +10,4 @@ returns c =
     let stood = with_items_is y.stood c.follow.new.stood (omega arith) in
     let takes = with_items_is y.takes c.follow.new.takes (omega arith) in
     clocks_on _ _ _ _ _ y _ _ _ _ now stood takes (omega arith) (omega arith) (omega arith)
-    (rw (c.deref-mut.ensures.value, c.deref-mut-2.ensures.value, c.deref-mut-3.ensures.value) at c.follow.ensures)
+    (rw (c.deref_mut.ensures.value, c.deref_mut-2.ensures.value, c.deref_mut-3.ensures.value) at c.follow.ensures)
