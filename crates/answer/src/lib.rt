@@ -41,7 +41,8 @@ fn put_name(out: &mut String, name: &[u8]) -> fmt::Result {
     for b in name {
         out.write_char(*b as char)?;
     }
-    write!(out, ": ")
+    write!(out, ": ")?;
+    Ok(())
 }
 
 fn put_miscount(out: &mut String, m: Miscount, before: usize) -> fmt::Result {
@@ -56,7 +57,8 @@ fn put_miscount(out: &mut String, m: Miscount, before: usize) -> fmt::Result {
     writeln!(
         out,
         "turned away by {number} at {place}: {what} (line {line})"
-    )
+    )?;
+    Ok(())
 }
 
 fn put_reason(out: &mut String, reason: Reason, line: usize) -> fmt::Result {
@@ -66,7 +68,8 @@ fn put_reason(out: &mut String, reason: Reason, line: usize) -> fmt::Result {
     writeln!(
         out,
         "turned away by {number} at {place}: {detail} (line {line})"
-    )
+    )?;
+    Ok(())
 }
 
 // The gates on a path that lent room begins with, as signal numbers, each after a comma but the first.
@@ -90,7 +93,8 @@ fn put_miss(out: &mut String, what: &str, miss: Miss, room: &[u32]) -> fmt::Resu
     let limit = miss.limit;
     write!(out, "{what} at {register}")?;
     put_gates(out, room, miss.path)?;
-    writeln!(out, ": {arrival} and {limit}")
+    writeln!(out, ": {arrival} and {limit}")?;
+    Ok(())
 }
 
 fn put_refusal(
@@ -108,7 +112,8 @@ fn put_refusal(
         None => {
             let number = refusal.number();
             let place = refusal.place();
-            writeln!(out, "turned away by {number} at {place}: room is too short")
+            writeln!(out, "turned away by {number} at {place}: room is too short")?;
+            Ok(())
         }
     }
 }
