@@ -1,11 +1,11 @@
 -- Laws of arrival times, for both kinds at once.
-use Rattle.std.proofs.Common.{◌≡◌, ℕ, ◌+◌, ◌<◌, ◌≤◌, min, max, true, false, length, sym, refl, ap, ◌∙◌, arith}
+use Rattle.std.proofs.Common.{◌≡◌, ℕ, ◌+◌, ◌<◌, true, false, length, sym, ap, ◌∙◌, arith}
 use Rattle.circuit.specs.Gate.{Gate}
-use Rattle.circuit.specs.Circuit.{Circuit, gate, signals, Sound}
+use Rattle.circuit.specs.Circuit.{Circuit, gate, Sound}
 use Rattle.circuit.proofs.Signals.{all_in, all_at, each_signal}
 use Rattle.arrival.specs.declared.edge.Edge.{Edge}
 use Rattle.arrival.specs.declared.edge.Edge.TheVariants.{Late, Early}
-use Rattle.arrival.specs.Arrival.{delay, choose, gate_time, arrival, NoWorse, GateWithin, CircuitWithin, Monotone, Shifts, Agrees}
+use Rattle.arrival.specs.Arrival.{delay, choose, gate_time, arrival, NoWorse, GateWithin, Monotone, Shifts, Agrees}
 
 module _ (e : Edge) (c : Circuit) (sound : Sound c) (s : ℕ → ℕ) where
   pub arrival_in : (i : ℕ) → i < c.inputs → arrival e c s i ≡ s i

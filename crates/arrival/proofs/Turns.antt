@@ -1,7 +1,6 @@
 -- One turn of the loop that fills in times, and that no time is too large.
-use Rattle.std.proofs.Common.{◌≡◌, ℕ, suc, ◌+◌, ◌-◌, ◌*◌, ◌^◌, ◌<◌, ◌≤◌, min, max, true, false, List, length, get_or, set, sym, refl, ap, ◌∙◌, inl, inr, arith}
-use Rattle.circuit.specs.Gate.{Gate}
-use Rattle.circuit.specs.Circuit.{gate, Sound}
+use Rattle.std.proofs.Common.{◌≡◌, ℕ, ◌+◌, ◌-◌, ◌*◌, ◌^◌, ◌<◌, ◌≤◌, max, true, false, List, length, get_or, set, sym, refl, ◌∙◌, arith}
+use Rattle.circuit.specs.Circuit.{Sound}
 use Rattle.circuit.specs.Filled.{Filled}
 use Rattle.circuit.specs.Lent.{gate_count, register_count, signal_count, gate_in, circuit_in, drawn}
 use Rattle.circuit.specs.Whole.{Small}

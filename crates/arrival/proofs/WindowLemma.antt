@@ -1,5 +1,5 @@
 -- The window lemma.
-use Rattle.std.proofs.Common.{◌≡◌, ℕ, ◌+◌, ◌-◌, ◌<◌, ◌≤◌, min, max, sym, ◌∙◌, ap₂, arith}
+use Rattle.std.proofs.Common.{◌≡◌, ℕ, ◌<◌, ◌≤◌, sym, ◌∙◌, ap₂, arith}
 use Rattle.circuit.specs.Gate.{output}
 use Rattle.circuit.specs.Circuit.{gate, signals}
 use Rattle.circuit.proofs.Signals.{each_signal}

@@ -1,7 +1,7 @@
 -- Arrival times over the numbers that are lent.
 use Rattle.std.specs.Prelude.{◌≡◌, ℕ, ◌+◌, ◌-◌, ◌^◌, ◌<◌, ◌≤◌, ◌⊎◌, List, length, Some, None, slice_index}
 use Rattle.circuit.specs.Filled.{Filled}
-use Rattle.circuit.specs.Lent.{gate_count, register_count, signal_count, circuit_in, drawn, early, late, output_early, output_late}
+use Rattle.circuit.specs.Lent.{gate_count, signal_count, circuit_in, drawn, early, late, output_early, output_late}
 use Rattle.circuit.specs.Refused.{AllOrFirst}
 use Rattle.circuit.specs.declared.refusal.Refusal.{Refusal}
 use Rattle.circuit.specs.declared.refusal.Refusal.TheVariants.{NoRoom, TooLarge}

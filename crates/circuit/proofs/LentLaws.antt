@@ -3,7 +3,7 @@ use Rattle.std.proofs.Common.{◌≡◌, ℕ, ◌+◌, ◌*◌, ◌<◌, ◌≤�
 use Rattle.std.proofs.lemmas.List.FromFn.{length-map-range_with_len, get_or-map-range_with_len}
 use Rattle.circuit.specs.Gate.{no_gate}
 use Rattle.circuit.specs.Circuit.{Sound}
-use Rattle.circuit.specs.Lent.{gate_count, register_count, gate_in, gates_in, circuit_in, drawn}
+use Rattle.circuit.specs.Lent.{gate_count, gate_in, gates_in, circuit_in}
 use Rattle.circuit.specs.Whole.{Placed, Ranged}
 
 pub gates_in_length : (xs : List ℕ) → length (gates_in xs) ≡ gate_count xs

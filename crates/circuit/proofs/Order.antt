@@ -1,8 +1,8 @@
 -- What a refusal says of the conditions before it.
-use Rattle.std.proofs.Common.{◌≡◌, ℕ, ◌%◌, ◌≤◌, List, length, inl, inr, arith}
+use Rattle.std.proofs.Common.{◌≡◌, ℕ, ◌≤◌, List, inl, inr, arith}
 use Rattle.std.proofs.lemmas.Bool.{cases_eq}
 use Rattle.circuit.specs.Whole.{Shaped}
-use Rattle.circuit.specs.Refused.{number_of, Applies, NoLater, FirstRefusal}
+use Rattle.circuit.specs.Refused.{number_of, Applies, FirstRefusal}
 use Rattle.circuit.specs.declared.refusal.Refusal.{Refusal}
 use Rattle.circuit.specs.declared.refusal.Refusal.TheVariants.{GateNumbers, RegisterNumbers, TimeNumbers}
 

@@ -1,5 +1,5 @@
 -- Gates over sources, and values of all signals by one rule.
-use Rattle.std.specs.Prelude.{ℕ, zero, suc, ◌+◌, ◌<◌, ◌≤◌, cond, List, [], ◌∷◌, length, ◌==◌, slice_index_or}
+use Rattle.std.specs.Prelude.{ℕ, suc, ◌+◌, ◌<◌, ◌≤◌, cond, List, [], ◌∷◌, length, ◌==◌, slice_index_or}
 use Rattle.circuit.specs.Gate.{Gate, no_gate}
 
 -- signals are numbered: the sources (inputs) first, then the gates in order

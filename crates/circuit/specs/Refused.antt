@@ -1,5 +1,5 @@
 -- Why numbers that are lent are turned away: by a number of a fixed list, at a place, and by the first that applies.
-use Rattle.std.specs.Prelude.{◌≡◌, ℕ, ◌+◌, ◌%◌, ◌<◌, ◌≤◌, ◌⊎◌, List, length, Some, None, Option}
+use Rattle.std.specs.Prelude.{◌≡◌, ℕ, ◌%◌, ◌<◌, ◌≤◌, ◌⊎◌, List, length, Some, None, Option}
 use Rattle.circuit.specs.Lent.{gate_count, register_count, signal_count}
 use Rattle.circuit.specs.Whole.{Whole, Shaped, SomeRegisters, FewGates, Small, Placed, Ranged, Tied, OutputOrdered}
 use Rattle.circuit.specs.declared.refusal.Refusal.{Refusal}

@@ -1,6 +1,5 @@
 -- When the numbers that are lent are a circuit.
 use Rattle.std.specs.Prelude.{◌≡◌, ℕ, ◌+◌, ◌%◌, ◌<◌, ◌≤◌, List, ◌++◌, length, slice_index}
-use Rattle.circuit.specs.Gate.{Gate}
 use Rattle.circuit.specs.Lent.{gate_count, register_count, signal_count, gate_in, takes, early, late, output_early, output_late}
 
 -- seven numbers for each gate, three for each register, five for all

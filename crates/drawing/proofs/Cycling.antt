@@ -1,8 +1,8 @@
 -- Cycles of the drawing, one after the other.
-use Rattle.std.proofs.Common.{◌≡◌, ℕ, suc, ◌+◌, ◌-◌, ◌<◌, ◌≤◌, Bool, false, List, sym, refl, ap, ◌∙◌, inl, inr, add-one, arith}
+use Rattle.std.proofs.Common.{◌≡◌, ℕ, ◌+◌, ◌-◌, ◌<◌, ◌≤◌, Bool, false, List, refl, ap, ◌∙◌, inl, inr, add-one, arith}
 use Rattle.std.proofs.lemmas.Bool.{cases_lt}
 use Rattle.circuit.specs.Circuit.{Sound}
-use Rattle.circuit.specs.Lent.{gate_count, register_count, signal_count, drawn, takes}
+use Rattle.circuit.specs.Lent.{register_count, signal_count, drawn, takes}
 use Rattle.circuit.proofs.LentLaws.{gates_in_length}
 use Rattle.drawing.specs.Drawing.{ideal, held}
 use Rattle.circuit.specs.Filled.{Filled}

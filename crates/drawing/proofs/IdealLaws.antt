@@ -1,5 +1,5 @@
 -- Laws of `ideal`: its two equations, that it is the only settled assignment, and that it depends on the sources' bits alone.
-use Rattle.std.proofs.Common.{◌≡◌, ℕ, ◌+◌, ◌*◌, ◌<◌, Bool, List, length, get_or, sym, ap, ◌∙◌, arith}
+use Rattle.std.proofs.Common.{◌≡◌, ℕ, ◌+◌, ◌*◌, ◌<◌, Bool, List, length, get_or, sym, ◌∙◌, arith}
 use Rattle.circuit.specs.Gate.{output}
 use Rattle.circuit.specs.Circuit.{Circuit, gate, signals, Sound}
 use Rattle.circuit.specs.Lent.{gate_count, circuit_in}

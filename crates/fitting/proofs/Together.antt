@@ -2,11 +2,11 @@
 use Rattle.std.proofs.Common.{◌≡◌, ℕ, ◌+◌, ◌<◌, ◌≤◌, min, ◌⊎◌, List, length, Some, None, vec_items, Option, sym, refl, ◌∙◌, inl, inr, arith}
 use Rattle.std.proofs.lemmas.Bool.{cases_lt, cases_eq}
 use Rattle.circuit.specs.Lent.{register_count}
-use Rattle.circuit.specs.declared.refusal.Refusal.TheVariants.{OutOfBounds}
 use Rattle.script.specs.declared.entry.Entry.{Entry}
 use Rattle.script.specs.declared.script.Script.{Script}
 use Rattle.script.specs.Entries.{entry}
 use Rattle.script.specs.Told.{DelayFits, ClockFits, Fits}
+use Rattle.fitting.specs.declared.unfit.Unfit.TheVariants.{OutOfBounds}
 use Rattle.fitting.specs.Misfit.{FirstMisfit, earlier, ClockWithin, TurnOf, TurnsBelow, Misfit}
 use Rattle.fitting.proofs.Firsts.{misfit_same, misfit_both}
 

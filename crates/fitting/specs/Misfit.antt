@@ -1,12 +1,12 @@
 -- Statements that do not fit, and the first line on which one stands.
 use Rattle.std.specs.Prelude.{◌≡◌, ℕ, suc, ◌+◌, ◌*◌, ◌<◌, ◌≤◌, min, ◌⊎◌, List, length, Some, None, vec_items, Option}
 use Rattle.circuit.specs.Lent.{register_count, early, late, period}
-use Rattle.circuit.specs.declared.refusal.Refusal.{Refusal}
-use Rattle.circuit.specs.declared.refusal.Refusal.TheVariants.{OutOfBounds}
 use Rattle.script.specs.declared.entry.Entry.{Entry}
 use Rattle.script.specs.declared.script.Script.{Script}
 use Rattle.script.specs.Entries.{entry}
 use Rattle.script.specs.Told.{clock_told, DelayFits, ClockFits}
+use Rattle.fitting.specs.declared.unfit.Unfit.{Unfit}
+use Rattle.fitting.specs.declared.unfit.Unfit.TheVariants.{OutOfBounds}
 
 -- P holds of the first n statements; or l is the first line of one of which it does not
 abbrev pub FirstMisfit : (Entry → Type 0) → List Entry → ℕ → Option ℕ → Type 0
@@ -36,7 +36,7 @@ abbrev pub TurnsBelow : (s : Script) (g r ts : List ℕ) (q : ℕ) → Entry →
 TurnsBelow s g r ts q e = e.who < q → InTurn s g r ts e
 
 -- the first line on which a delay or a clock does not fit
-pub record Misfit (s : Script) (g r ts : List ℕ) (e : Refusal) : Type 0 where
+pub record Misfit (s : Script) (g r ts : List ℕ) (e : Unfit) : Type 0 where
   pub line : ℕ
   pub is : e ≡ OutOfBounds line
   pub there : ((i : ℕ) × (i < length (vec_items s.delays)) × ((entry (vec_items s.delays) i).line ≡ line) × (DelayFits s g r ts (entry (vec_items s.delays) i) → ⊥))

@@ -6,7 +6,11 @@ ghost use Rattle.circuit.specs.Lent.{register_count, period};
 ghost use Rattle.script.specs.Told.{DelayFits, Fits, clock_told};
 ghost use Rattle.fitting.specs.Misfit.{FirstMisfit, earlier, ClockWithin, TurnOf, TurnsBelow, Misfit};
 
-use circuit::{Circuit, Refusal};
+mod unfit;
+
+pub use unfit::Unfit;
+
+use circuit::Circuit;
 use clocks::{first_clock, next_clock};
 use script::{Entry, Script};
 
@@ -134,7 +138,7 @@ fn misfit_turns(circuit: Circuit<'_>, script: &Script) -> Option<usize>
 
 // Whether all that a script tells lies within the bounds of a circuit, and told clocks come one after another; else the
 // first line on which something does not.
-pub fn fits(circuit: Circuit<'_>, script: &Script) -> Result<(), Refusal>
+pub fn fits(circuit: Circuit<'_>, script: &Script) -> Result<(), Unfit>
     ensures { MatchResult result
         (λ _. Fits script.now circuit.entry.gates.now circuit.entry.registers.now circuit.entry.times.now)
         (λ e. Misfit script.now circuit.entry.gates.now circuit.entry.registers.now circuit.entry.times.now e) }
@@ -142,6 +146,6 @@ pub fn fits(circuit: Circuit<'_>, script: &Script) -> Result<(), Refusal>
     let clocks = earlier(misfit_clock(circuit, script), misfit_turns(circuit, script));
     match earlier(misfit_delay(circuit, script), clocks) {
         None => Ok(()),
-        Some(line) => Err(Refusal::OutOfBounds(line)),
+        Some(line) => Err(Unfit::OutOfBounds(line)),
     }
 }

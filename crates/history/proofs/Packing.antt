@@ -1,5 +1,5 @@
 -- Bits packed into numbers: one is turned, and no other.
-use Rattle.std.proofs.Common.{◌≡◌, ℕ, zero, suc, ◌+◌, ◌-◌, ◌*◌, ◌/◌, ◌%◌, ◌^◌, ◌<◌, ◌≤◌, Bool, true, false, not, eqb, List, length, get_or, set, sym, refl, ap, ◌∙◌, inl, inr, mul_assoc, arith, get_or-set_other, get_or-set_same}
+use Rattle.std.proofs.Common.{◌≡◌, ℕ, zero, suc, ◌+◌, ◌-◌, ◌*◌, ◌/◌, ◌%◌, ◌^◌, ◌<◌, Bool, true, false, not, eqb, List, length, get_or, set, sym, refl, ap, ◌∙◌, inl, inr, mul_assoc, arith, get_or-set_other, get_or-set_same}
 use mathlib.Core.Bool.{beq}
 use native.Mathlib.Nat.{mul-mod_left, div-eq_of_lt}
 use lib.Bits.{bit_xor, xor_shr, xor_mod, xor_zero_r}

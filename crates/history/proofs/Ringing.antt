@@ -1,9 +1,9 @@
 -- Places of a history: what is kept where, and what keeps out of its way.
-use Rattle.std.proofs.Common.{◌≡◌, ℕ, ◌+◌, ◌-◌, ◌*◌, ◌/◌, ◌%◌, ◌^◌, ◌<◌, ◌≤◌, Bool, true, false, ◌&&◌, ltb, List, length, get_or, replicate, vec_items, vec_len, sym, refl, ap, ◌∙◌, inl, inr, arith}
+use Rattle.std.proofs.Common.{◌≡◌, ℕ, ◌+◌, ◌-◌, ◌*◌, ◌/◌, ◌%◌, ◌^◌, ◌<◌, ◌≤◌, Bool, false, ◌&&◌, ltb, get_or, replicate, vec_items, vec_len, sym, refl, ap, ◌∙◌, inl, inr, arith}
 use native.Mathlib.Nat.{zero-div}
 use Rattle.std.proofs.lemmas.List.{get_or-replicate, get_or_past, length-replicate}
 use Rattle.std.proofs.lemmas.Nat.{pow_pos, mul-add-lt, div-mul-add, mod-mul-add, mod_below, div-add-mod'}
-use Rattle.std.proofs.lemmas.Bool.{cases_eq, cases_lt, cases_Bool, lt-ltb, and_right}
+use Rattle.std.proofs.lemmas.Bool.{cases_lt, lt-ltb, and_right}
 use Rattle.history.specs.declared.history.History.{History}
 use Rattle.history.specs.Kept.{bit_in, place, kept, Put, Fresh}
 

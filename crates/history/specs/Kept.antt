@@ -1,5 +1,5 @@
 -- Bits of rows at moments, of which the last ones are kept.
-use Rattle.std.specs.Prelude.{◌≡◌, ℕ, ◌+◌, ◌*◌, ◌/◌, ◌%◌, ◌^◌, ◌<◌, ◌≤◌, Bool, false, ◌&&◌, ◌⊎◌, List, vec_items, vec_len, ◌≢◌, nat_lt, slice_index}
+use Rattle.std.specs.Prelude.{◌≡◌, ℕ, ◌+◌, ◌*◌, ◌/◌, ◌%◌, ◌^◌, ◌<◌, ◌≤◌, Bool, false, ◌&&◌, List, vec_items, vec_len, ◌≢◌, nat_lt, slice_index}
 use Rattle.circuit.specs.Gate.{bit}
 use Rattle.history.specs.declared.history.History.{History}
 

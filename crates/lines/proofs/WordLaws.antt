@@ -1,9 +1,9 @@
 -- Laws of `words`.
-use Rattle.std.proofs.Common.{◌≡◌, ℕ, suc, ◌+◌, ◌-◌, ◌<◌, ◌≤◌, Bool, true, false, cond, not, ◌⊎◌, List, [], ◌∷◌, ◌++◌, length, take, drop, sym, refl, ap, ◌∙◌, inl, inr, add-one, one-add, arith}
+use Rattle.std.proofs.Common.{◌≡◌, ℕ, suc, ◌-◌, ◌<◌, ◌≤◌, List, [], ◌∷◌, length, take, drop, sym, refl, ap, ◌∙◌, inl, inr, add-one, one-add, arith}
 use Rattle.std.proofs.lemmas.List.{length-take-le, length-drop, drop-drop}
 use Rattle.std.specs.List.{prefix_len}
 use Rattle.std.proofs.lemmas.Bool.{cases_Bool}
-use Rattle.lines.specs.Words.{blank, ink, onto, before, words, inline, lines, FirstWord}
+use Rattle.lines.specs.Words.{blank, ink, onto, words, inline, lines, FirstWord}
 
 -- blanks in front change nothing
 pub words_past_blanks : (s : List ℕ) → words s ≡ words (drop (prefix_len blank s) s)

@@ -1,5 +1,5 @@
 -- No time with a delay overflows.
-use Rattle.std.proofs.Common.{◌≡◌, ℕ, ◌+◌, ◌*◌, ◌^◌, ◌<◌, ◌≤◌, List, length, get_or, arith}
+use Rattle.std.proofs.Common.{◌≡◌, ℕ, ◌+◌, ◌*◌, ◌^◌, ◌<◌, List, get_or, arith}
 use Rattle.circuit.specs.Lent.{gate_count, register_count, signal_count}
 use Rattle.circuit.specs.Whole.{FewGates, Small, Placed, Ranged}
 use Rattle.circuit.proofs.Joined.{small_gates}

@@ -1,8 +1,7 @@
 -- The told path has its signal's time, and is the first that has; no path has a worse one.
-use Rattle.std.proofs.Common.{◌≡◌, ℕ, ◌+◌, ◌-◌, ◌<◌, ◌≤◌, min, max, Bool, true, false, cond, ltb, ◌⊎◌, List, [], ◌∷◌, length, sym, refl, ap, ◌∙◌, inl, inr, arith}
+use Rattle.std.proofs.Common.{◌≡◌, ℕ, ◌+◌, ◌-◌, ◌<◌, ◌≤◌, Bool, true, false, cond, ltb, List, [], ◌∷◌, length, sym, refl, ap, ◌∙◌, inl, inr, arith}
 use Rattle.std.proofs.lemmas.Bool.{cases_Bool, ltb-true, ltb-false}
-use Rattle.circuit.specs.Gate.{Gate}
-use Rattle.circuit.specs.Circuit.{Circuit, gate, signals, Sound}
+use Rattle.circuit.specs.Circuit.{Circuit, gate, Sound}
 use Rattle.circuit.specs.Lent.{gate_count, register_count, signal_count, gate_in, drawn}
 use Rattle.circuit.proofs.LentLaws.{gates_in_length, gates_in_at}
 use Rattle.circuit.proofs.Signals.{all_in, all_at, each_signal}

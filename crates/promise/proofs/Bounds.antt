@@ -1,11 +1,9 @@
 -- What is passed stays so with bounds within the old ones and with a longer period.
-use Rattle.std.proofs.Common.{◌≡◌, ℕ, ◌+◌, ◌<◌, ◌≤◌, refl, arith}
-use Rattle.circuit.specs.Circuit.{signals}
+use Rattle.std.proofs.Common.{◌<◌, refl, arith}
 use Rattle.arrival.specs.declared.edge.Edge.TheVariants.{Late, Early}
-use Rattle.arrival.specs.Arrival.{GateWithin}
 use Rattle.arrival.proofs.ArrivalLaws.{monotone}
-use Rattle.promise.specs.Machine.{Machine, Passed, Formed, since, still_for}
-use Rattle.promise.specs.Promise.{Within, Narrower, Slower, with_period}
+use Rattle.promise.specs.Machine.{since, still_for}
+use Rattle.promise.specs.Promise.{Narrower, Slower, with_period}
 
 pub narrower : Narrower
 narrower new old v passed =

@@ -1,15 +1,15 @@
 -- A passed machine can go.
-use Rattle.std.proofs.Common.{◌≡◌, ℕ, zero, suc, ◌+◌, ◌-◌, ◌*◌, ◌<◌, ◌≤◌, min, max, Bool, cond, leb, length, sym, refl, ap, ◌∙◌, inl, inr, mul-le-mul_left, arith}
-use Rattle.std.proofs.lemmas.Bool.{cases_eq, cases_lt, le-leb, lt-leb}
-use Rattle.circuit.specs.Gate.{Gate, output}
-use Rattle.circuit.specs.Circuit.{Circuit, gate, signals, Sound, along}
+use Rattle.std.proofs.Common.{◌≡◌, ℕ, zero, suc, ◌+◌, ◌-◌, ◌*◌, ◌<◌, ◌≤◌, Bool, cond, leb, sym, refl, ap, ◌∙◌, inl, inr, mul-le-mul_left, arith}
+use Rattle.std.proofs.lemmas.Bool.{cases_eq, le-leb, lt-leb}
+use Rattle.circuit.specs.Gate.{output}
+use Rattle.circuit.specs.Circuit.{Circuit, signals, Sound, along}
 use Rattle.circuit.proofs.Signals.{all_in, all_at, each_signal}
-use Rattle.drawing.specs.Drawing.{ideal, held}
+use Rattle.drawing.specs.Drawing.{held}
 use Rattle.arrival.specs.declared.edge.Edge.TheVariants.{Late, Early}
-use Rattle.arrival.specs.Window.{Wave, Moves, Follows}
+use Rattle.arrival.specs.Window.{Wave, Moves}
 use Rattle.arrival.proofs.ArrivalLaws.{arrival_in, arrival_at}
 use Rattle.promise.specs.Machine.{Machine, Passed, Formed, drawing, since, still_for, last_change, first_change}
-use Rattle.promise.specs.Run.{Clocks, Run}
+use Rattle.promise.specs.Run.{Clocks}
 use Rattle.promise.specs.Promise.{Delays, CanGo}
 use Rattle.promise.proofs.Keeping.{carries}
 

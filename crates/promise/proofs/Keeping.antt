@@ -1,5 +1,5 @@
 -- The promise, from what every signal shows in its window.
-use Rattle.std.proofs.Common.{◌≡◌, ℕ, zero, suc, ◌+◌, ◌*◌, ◌<◌, ◌≤◌, Bool, sym, ap, ◌∙◌, arith}
+use Rattle.std.proofs.Common.{◌≡◌, ℕ, zero, suc, ◌+◌, ◌*◌, ◌<◌, ◌≤◌, Bool, ◌∙◌, arith}
 use Rattle.circuit.specs.Circuit.{signals, Sound}
 use Rattle.drawing.specs.Drawing.{ideal, held}
 use Rattle.drawing.proofs.IdealLaws.{ideal_agrees}

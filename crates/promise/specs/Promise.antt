@@ -2,7 +2,7 @@
 use Rattle.std.specs.Prelude.{◌≡◌, ℕ, suc, ◌+◌, ◌*◌, ◌<◌, ◌≤◌, Bool, length}
 use Rattle.circuit.specs.Circuit.{Circuit, gate, signals}
 use Rattle.drawing.specs.Drawing.{ideal}
-use Rattle.arrival.specs.Arrival.{GateWithin, CircuitWithin}
+use Rattle.arrival.specs.Arrival.{CircuitWithin}
 use Rattle.arrival.specs.Window.{Wave}
 use Rattle.promise.specs.Machine.{Machine, Passed, Formed, drawing, last_change, first_change}
 use Rattle.promise.specs.Run.{Clocks, Run}

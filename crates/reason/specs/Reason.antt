@@ -1,6 +1,5 @@
 -- What exactly is wrong with numbers that are turned away.
 use Rattle.std.specs.Prelude.{◌≡◌, ℕ, ◌+◌, ◌*◌, ◌%◌, ◌<◌, ◌≤◌, List, length, ◌≢◌, slice_index}
-use Rattle.circuit.specs.Gate.{Gate}
 use Rattle.circuit.specs.Lent.{gate_count, register_count, signal_count, gate_in, takes, early, late, output_early, output_late}
 use Rattle.circuit.specs.declared.refusal.Refusal.{Refusal}
 use Rattle.circuit.specs.declared.refusal.Refusal.TheVariants as refusal

@@ -1,5 +1,5 @@
 -- What is chosen lies within its bounds.
-use Rattle.std.proofs.Common.{◌≡◌, ℕ, suc, ◌+◌, ◌-◌, ◌*◌, ◌/◌, ◌%◌, ◌^◌, ◌<◌, ◌≤◌, min, arith}
+use Rattle.std.proofs.Common.{ℕ, suc, ◌+◌, ◌-◌, ◌*◌, ◌/◌, ◌%◌, ◌^◌, ◌<◌, ◌≤◌, min, arith}
 use Rattle.std.proofs.lemmas.Nat.{div_below, mul-le, mod_below}
 use Rattle.script.specs.Chance.{between}
 

@@ -1,15 +1,14 @@
 -- What a script tells lies within bounds.
-use Rattle.std.proofs.Common.{◌≡◌, ℕ, zero, suc, ◌+◌, ◌*◌, ◌/◌, ◌^◌, ◌<◌, ◌≤◌, max, Bool, true, ◌&&◌, eqb, leb, List, length, Some, None, vec_items, Option, sym, refl, ap, ◌∙◌, arith}
+use Rattle.std.proofs.Common.{◌≡◌, ℕ, zero, suc, ◌+◌, ◌*◌, ◌<◌, ◌≤◌, max, List, length, Some, None, vec_items, Option, refl, ◌∙◌, arith}
 use Rattle.std.proofs.lemmas.Bool.{and_parts, eqb-true}
 use Rattle.circuit.specs.Lent.{gate_count, register_count, gate_in, early, late, period}
 use Rattle.circuit.proofs.LentLaws.{gates_in_length, gates_in_at}
 use Rattle.promise.specs.Machine.{machine_in, Formed}
-use Rattle.simulation.specs.Simulated.{MayTell}
 use Rattle.script.specs.declared.entry.Entry.{Entry}
 use Rattle.script.specs.declared.script.Script.{Script}
-use Rattle.script.specs.Chance.{between, drawn_from}
-use Rattle.script.specs.Entries.{entry, due, on}
-use Rattle.script.specs.Told.{said_or, chosen_or, said_by, said_in, one_told, two_told, clock_between, clock_told, told_by, DelayFits, ClockFits, Fits, MayBeTold}
+use Rattle.script.specs.Chance.{drawn_from}
+use Rattle.script.specs.Entries.{due, on}
+use Rattle.script.specs.Told.{said_or, chosen_or, said_by, said_in, one_told, two_told, clock_between, clock_told, told_by, Fits, MayBeTold}
 use Rattle.script.proofs.Choosing.{between_in}
 use Rattle.script.proofs.Last.{last_is}
 

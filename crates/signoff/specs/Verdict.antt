@@ -1,5 +1,5 @@
 -- What is answered of a clocked circuit, over the numbers that are lent.
-use Rattle.std.specs.Prelude.{◌≡◌, ℕ, ◌+◌, ◌<◌, ◌≤◌, ◌⊎◌, List, length, Some, Ok, Err, Result}
+use Rattle.std.specs.Prelude.{◌≡◌, ℕ, ◌+◌, ◌<◌, ◌⊎◌, List, Some, Ok, Err, Result}
 use Rattle.circuit.specs.Lent.{register_count, takes, early, late, period, setup, hold}
 use Rattle.circuit.specs.Refused.{AllOrFirst, FirstRefusal}
 use Rattle.circuit.specs.Whole.{Whole}
@@ -8,7 +8,6 @@ use Rattle.arrival.specs.declared.edge.Edge.TheVariants.{Late, Early}
 use Rattle.path.specs.Path.{PathTold, PathRefused}
 use Rattle.promise.specs.Machine.{Machine, machine_in, last_change, first_change, SetupKept, HoldKept, Passed}
 use Rattle.promise.specs.Promise.{AsDrawn}
-use Rattle.signoff.specs.declared.verdict.Miss.{Miss}
 use Rattle.signoff.specs.declared.verdict.Verdict.{Verdict}
 use Rattle.signoff.specs.declared.verdict.Verdict.TheVariants as verdict
 

@@ -1,11 +1,11 @@
 -- A simulated run is one that the machine can make.
-use Rattle.std.proofs.Common.{◌≡◌, ℕ, zero, suc, ◌+◌, ◌-◌, ◌*◌, ◌<◌, ◌≤◌, min, max, Bool, true, false, cond, not, ◌&&◌, eqb, ltb, leb, ◌⊎◌, length, sym, refl, ap, ◌∙◌, ap₂, inl, inr, arith}
-use Rattle.std.proofs.lemmas.Bool.{ne_eqb, eq-eqb, cases_lt, cases_eq, le-leb, lt-ltb, lt-leb, leb-true, leb-false, cases_Bool, and_from, and_left, and_right}
-use Rattle.circuit.specs.Gate.{Gate, output}
+use Rattle.std.proofs.Common.{◌≡◌, ℕ, zero, suc, ◌+◌, ◌-◌, ◌<◌, ◌≤◌, Bool, true, false, ◌&&◌, leb, ◌⊎◌, length, sym, refl, ap, ◌∙◌, ap₂, inl, inr, arith}
+use Rattle.std.proofs.lemmas.Bool.{ne_eqb, eq-eqb, cases_lt, cases_eq, le-leb, lt-ltb, leb-true, leb-false, cases_Bool, and_from, and_left, and_right}
+use Rattle.circuit.specs.Gate.{output}
 use Rattle.circuit.specs.Circuit.{Circuit, gate, signals, Sound}
 use Rattle.circuit.proofs.Signals.{all_in, all_at, each_signal}
 use Rattle.arrival.specs.Window.{Wave, Moves}
-use Rattle.promise.specs.Machine.{Machine, Passed}
+use Rattle.promise.specs.Machine.{Machine}
 use Rattle.promise.specs.Run.{Run}
 use Rattle.promise.specs.Promise.{Delays}
 use Rattle.promise.proofs.Going.{in_order}

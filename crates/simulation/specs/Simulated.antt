@@ -1,6 +1,6 @@
 -- The run that a machine makes, moment by moment, from what it is told.
-use Rattle.std.specs.Prelude.{◌≡◌, ℕ, zero, suc, ◌+◌, ◌-◌, ◌<◌, ◌≤◌, min, Bool, true, false, cond, not, ◌&&◌, ◌==◌, nat_le, nat_lt}
-use Rattle.circuit.specs.Gate.{Gate, output}
+use Rattle.std.specs.Prelude.{ℕ, zero, suc, ◌+◌, ◌-◌, ◌<◌, min, Bool, true, false, cond, not, ◌&&◌, ◌==◌, nat_le, nat_lt}
+use Rattle.circuit.specs.Gate.{output}
 use Rattle.circuit.specs.Circuit.{Circuit, along}
 use Rattle.arrival.specs.Window.{Wave}
 use Rattle.promise.specs.Machine.{Machine, Formed}

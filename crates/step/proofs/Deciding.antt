@@ -1,12 +1,12 @@
 -- A register at one moment: it stays in its cycle, or goes on to the next and decides what it takes.
-use Rattle.std.proofs.Common.{◌≡◌, ℕ, suc, ◌+◌, ◌-◌, ◌*◌, ◌^◌, ◌<◌, ◌≤◌, min, Bool, true, false, cond, not, ◌&&◌, ltb, leb, List, get_or, sym, refl, ap, ◌∙◌, add-one, arith}
+use Rattle.std.proofs.Common.{◌≡◌, ℕ, suc, ◌+◌, ◌-◌, ◌*◌, ◌^◌, ◌<◌, ◌≤◌, min, Bool, true, false, cond, not, ◌&&◌, ltb, leb, List, get_or, sym, ◌∙◌, arith}
 use mathlib.Core.Bool.{beq}
 use Rattle.std.proofs.lemmas.Nat.{pow_pos}
 use Rattle.std.proofs.lemmas.Bool.{le-leb, lt-leb, true≢false, false≢true}
 use Rattle.circuit.specs.Lent.{register_count, takes, output_early, output_late, setup, hold}
 use Rattle.promise.specs.Machine.{Machine, machine_in}
 use Rattle.history.specs.declared.history.History.{History}
-use Rattle.history.specs.Kept.{kept, span}
+use Rattle.history.specs.Kept.{kept}
 use Rattle.simulation.specs.Simulated.{Told, cycle, bits, settled, first_seen, end_seen, shown_of, shows_at, run_waves, run_bits}
 use Rattle.simulation.proofs.Running.{cycle_until, clocks_apart, register_shows, settled_same, some_seen}
 use Rattle.step.specs.Lent.{TellsRegister}

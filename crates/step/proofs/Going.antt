@@ -1,15 +1,14 @@
 -- The registers one after another, and a whole moment.
-use Rattle.std.proofs.Common.{◌≡◌, ℕ, zero, suc, ◌+◌, ◌<◌, ◌≤◌, Bool, leb, ◌≢◌, List, length, get_or, set, sym, refl, ap, ◌∙◌, inl, inr, add-one, arith}
+use Rattle.std.proofs.Common.{◌≡◌, ℕ, suc, ◌+◌, ◌<◌, ◌≤◌, Bool, leb, ◌≢◌, List, length, get_or, set, refl, ◌∙◌, inl, inr, arith}
 use Rattle.std.proofs.lemmas.List.{get_or-set_same, get_or-set_other}
 use Rattle.std.proofs.lemmas.Bool.{cases_eq, cases_Bool}
 use Rattle.circuit.specs.Lent.{register_count, signal_count}
 use Rattle.circuit.proofs.LentLaws.{gates_in_length}
 use Rattle.promise.specs.Machine.{Machine, machine_in}
 use Rattle.history.specs.declared.history.History.{History}
-use Rattle.history.specs.Kept.{kept, span, Put}
-use Rattle.simulation.specs.Simulated.{Told, cycle, run_bits}
-use Rattle.step.specs.Lent.{TellsRegister, TellsGates}
-use Rattle.step.specs.Stands.{Wide, Ready, Remembers, InCycle, Does, Stands, SameSize, Given, RegisterGoes, RegistersGo, Settles, Steps}
+use Rattle.history.specs.Kept.{span, Put}
+use Rattle.simulation.specs.Simulated.{Told, cycle}
+use Rattle.step.specs.Stands.{InCycle, Does, Given, RegisterGoes, RegistersGo, Settles, Steps}
 use Rattle.step.proofs.Remembering.{same_none, same_put, wide_same, remembers_more, remembers_next}
 
 module _ (m : Machine) (x : Told) where

@@ -1,8 +1,8 @@
 -- The history of a run: one more signal settled, and the gates one after another.
-use Rattle.std.proofs.Common.{◌≡◌, ℕ, suc, ◌+◌, ◌-◌, ◌*◌, ◌<◌, ◌≤◌, Bool, List, length, get_or, sym, refl, ap, ◌∙◌, ap₂, inl, inr, add-one, arith}
+use Rattle.std.proofs.Common.{◌≡◌, ℕ, suc, ◌+◌, ◌-◌, ◌*◌, ◌<◌, Bool, List, length, get_or, sym, refl, ◌∙◌, ap₂, inl, inr, arith}
 use Rattle.std.proofs.lemmas.Bool.{cases_eq}
 use Rattle.circuit.specs.Gate.{output}
-use Rattle.circuit.specs.Circuit.{gate, signals}
+use Rattle.circuit.specs.Circuit.{signals}
 use Rattle.circuit.specs.Lent.{gate_count, register_count, gate_in, drawn}
 use Rattle.circuit.proofs.LentLaws.{gates_in_length, gates_in_at, inputs_before}
 use Rattle.promise.specs.Machine.{Machine, machine_in}

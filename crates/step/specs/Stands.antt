@@ -1,7 +1,7 @@
 -- How far a run has come, and what is remembered of it.
-use Rattle.std.specs.Prelude.{◌≡◌, ℕ, suc, ◌+◌, ◌<◌, ◌≤◌, Bool, false, List, length, slice_index}
+use Rattle.std.specs.Prelude.{◌≡◌, ℕ, suc, ◌+◌, ◌<◌, ◌≤◌, Bool, List, length, slice_index}
 use Rattle.circuit.specs.Circuit.{gate, signals}
-use Rattle.circuit.specs.Lent.{register_count, signal_count}
+use Rattle.circuit.specs.Lent.{register_count}
 use Rattle.promise.specs.Machine.{Machine, machine_in}
 use Rattle.history.specs.declared.history.History.{History}
 use Rattle.history.specs.Kept.{kept, span}

@@ -26,10 +26,10 @@ pub fn step(
     bits: &mut History,
     cycles: &mut [u64],
 ) -> Result<(), Refusal>
-    ensures* { λ e. ⌜ MatchResult e
+    ensures { MatchResult result
         (λ _. Steps circuit.entry.gates.now circuit.entry.registers.now circuit.entry.times.now t told.entry.delays.now told.entry.shows.now told.entry.clocks.now told.entry.takes.now past.old past.new cycles.old cycles.new bits.old bits.new)
         (λ e. TooFew circuit.entry.gates.now circuit.entry.registers.now cycles.old told.entry.delays.now told.entry.shows.now told.entry.clocks.now told.entry.takes.now e
-        × (past.new ≡ past.old) × (cycles.new ≡ cycles.old) × (bits.new ≡ bits.old)) ⌝ }
+        × (past.new ≡ past.old) × (cycles.new ≡ cycles.old) × (bits.new ≡ bits.old)) }
 {
     let n = circuit.registers.len() / 3;
     if cycles.len() < n || told.shows.len() < n || told.takes.len() < n {

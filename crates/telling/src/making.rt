@@ -11,7 +11,7 @@ use std::alloc::{AllocError, Global};
 
 // A list in which nothing is said yet of any of `n` gates or registers.
 fn nothing_said(heap: Global, n: usize) -> Result<Vec<Option<Entry>>, AllocError>
-    ensures* { λ v. ⌜ IfOk v (λ v. v.items ≡ replicate n None) ⌝ }
+    ensures { IfOk result (λ v. v.items ≡ replicate n None) }
 {
     let mut said = Vec::with_capacity(heap, n)?;
     for _ in 0..n {
@@ -21,7 +21,7 @@ fn nothing_said(heap: Global, n: usize) -> Result<Vec<Option<Entry>>, AllocError
 }
 
 fn new_delays(heap: Global, circuit: Circuit<'_>) -> Result<Delays, AllocError>
-    ensures* { λ y. ⌜ ((s : Script) → IfOk y (λ y. DelaysNew s circuit.entry.gates.now y)) ⌝ }
+    ensures { ((s : Script) → IfOk result (λ y. DelaysNew s circuit.entry.gates.now y)) }
 {
     let n = circuit.gates.len() / 7;
     Ok(Delays {
@@ -32,7 +32,7 @@ fn new_delays(heap: Global, circuit: Circuit<'_>) -> Result<Delays, AllocError>
 }
 
 fn new_shows(heap: Global, circuit: Circuit<'_>) -> Result<Shows, AllocError>
-    ensures* { λ y. ⌜ ((s : Script) → IfOk y (λ y. ShowsNew s circuit.entry.registers.now y)) ⌝ }
+    ensures { ((s : Script) → IfOk result (λ y. ShowsNew s circuit.entry.registers.now y)) }
 {
     let n = circuit.registers.len() / 3;
     Ok(Shows {
@@ -43,7 +43,7 @@ fn new_shows(heap: Global, circuit: Circuit<'_>) -> Result<Shows, AllocError>
 }
 
 fn new_clocks(heap: Global, circuit: Circuit<'_>, script: &Script) -> Result<Clocks, AllocError>
-    ensures* { λ y. ⌜ IfOk y (λ y. ClocksNew script.now circuit.entry.gates.now circuit.entry.registers.now circuit.entry.times.now y) ⌝ }
+    ensures { IfOk result (λ y. ClocksNew script.now circuit.entry.gates.now circuit.entry.registers.now circuit.entry.times.now y) }
 {
     let n = circuit.registers.len() / 3;
     let mut now = vec![in heap; 0; 3 * n]?;
@@ -59,7 +59,7 @@ fn new_clocks(heap: Global, circuit: Circuit<'_>, script: &Script) -> Result<Clo
 impl Teller {
     // A teller that knows what is said before moment 0, which is nothing.
     pub fn new(heap: Global, circuit: Circuit<'_>, script: &Script) -> Result<Teller, AllocError>
-        ensures* { λ y. ⌜ IfOk y (λ y. Begins script.now circuit.entry.gates.now circuit.entry.registers.now circuit.entry.times.now y) ⌝ }
+        ensures { IfOk result (λ y. Begins script.now circuit.entry.gates.now circuit.entry.registers.now circuit.entry.times.now y) }
     {
         Ok(Teller {
             delays: new_delays(heap, circuit)?,

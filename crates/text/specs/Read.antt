@@ -1,5 +1,5 @@
 -- What the reader answers, by what a text means.
-use Rattle.std.specs.Prelude.{◌≡◌, ℕ, ◌<◌, ◌≤◌, ◌⊎◌, List, length, Some, None, Ok, Err, Option, Result, MatchResult}
+use Rattle.std.specs.Prelude.{◌≡◌, ℕ, ◌<◌, ◌≤◌, ◌⊎◌, length, Some, None, Ok, Err, Option, Result, MatchResult}
 use Rattle.std.specs.Option as options
 use Rattle.lines.specs.Words.{lines}
 use Rattle.fields.specs.declared.fault.Expected.TheVariants.{Memory}

@@ -9,8 +9,8 @@ ghost use Rattle.trial.specs.Stopped.{Timeless, Stopped};
 
 use crate::room::Room;
 use crate::stop::Stop;
-use circuit::{Circuit, Refusal};
-use fitting::fits;
+use circuit::Circuit;
+use fitting::{Unfit, fits};
 use history::History;
 use script::{Script, chance};
 use std::alloc::{AllocError, Global};
@@ -75,21 +75,21 @@ fn start_bits(circuit: Circuit<'_>, script: &Script, bits: &mut History)
 }
 
 // That a run is possible: a period takes time, and some moment passes before a register must show what it takes.
-fn look_at_times(circuit: Circuit<'_>) -> Result<(), Refusal>
+fn look_at_times(circuit: Circuit<'_>) -> Result<(), Unfit>
     ensures { MatchResult result (λ _. (0 < period circuit.entry.times.now) × (0 < setup circuit.entry.times.now + output_late circuit.entry.times.now)) (λ e. Timeless circuit.entry.times.now e) }
 {
     if circuit.times[0] == 0 {
-        return Err(Refusal::NoPeriod);
+        return Err(Unfit::NoPeriod);
     }
     if circuit.times[2] == 0 && circuit.times[3] == 0 {
-        return Err(Refusal::NoMoment);
+        return Err(Unfit::NoMoment);
     }
     Ok(())
 }
 
 // A history that goes back as far as the circuit's delays, and a register's decision, want.
 fn past_for(heap: Global, circuit: Circuit<'_>) -> Result<History, AllocError>
-    ensures* { λ h. ⌜ IfOk h (λ h. Wide (machine_in circuit.entry.gates.now circuit.entry.registers.now circuit.entry.times.now) h) ⌝ }
+    ensures { IfOk result (λ h. Wide (machine_in circuit.entry.gates.now circuit.entry.registers.now circuit.entry.times.now) h) }
 {
     let seen = circuit.times[2] as u64 + circuit.times[3] as u64;
     let back = seen.max(greatest_delay(circuit) as u64);
@@ -105,7 +105,7 @@ fn bits_for(
     latest: u32,
 ) -> Result<History, AllocError>
     requires { 0 < period circuit.times.now }
-    ensures* { λ h. ⌜ IfOk h (λ h. BitsReady script.now circuit.entry.gates.now circuit.entry.registers.now circuit.entry.times.now latest h) ⌝ }
+    ensures { IfOk result (λ h. BitsReady script.now circuit.entry.gates.now circuit.entry.registers.now circuit.entry.times.now latest h) }
 {
     let apart = (latest - earliest_clock(circuit, latest)) / circuit.times[0];
     let mut bits = History::new(heap, circuit.registers.len() / 3, apart as u64)?;
@@ -116,7 +116,7 @@ fn bits_for(
 // Room for a circuit and a script.
 fn room_for(heap: Global, circuit: Circuit<'_>, script: &Script) -> Result<Room, AllocError>
     requires { 0 < period circuit.times.now }
-    ensures* { λ y. ⌜ IfOk y (λ y. Furnished script.now circuit.entry.gates.now circuit.entry.registers.now circuit.entry.times.now y) ⌝ }
+    ensures { IfOk result (λ y. Furnished script.now circuit.entry.gates.now circuit.entry.registers.now circuit.entry.times.now y) }
 {
     let latest = latest_clock(circuit);
     let past = past_for(heap, circuit)?;
@@ -135,9 +135,9 @@ fn room_for(heap: Global, circuit: Circuit<'_>, script: &Script) -> Result<Room,
 // Room for a circuit with a script, before the first moment: with all that a run of it needs, which is one of the runs
 // that passing speaks of. Statements that are out of bounds are refused, and then times with which no run is possible.
 pub fn prepare(heap: Global, circuit: Circuit<'_>, script: &Script) -> Result<Room, Stop>
-    ensures* { λ y. ⌜ MatchResult y
+    ensures { MatchResult result
         (λ y. Standing script.now circuit.entry.gates.now circuit.entry.registers.now circuit.entry.times.now 0 y)
-        (λ e. Stopped script.now circuit.entry.gates.now circuit.entry.registers.now circuit.entry.times.now e) ⌝ }
+        (λ e. Stopped script.now circuit.entry.gates.now circuit.entry.registers.now circuit.entry.times.now e) }
 {
     fits(circuit, script)?;
     look_at_times(circuit)?;

@@ -2,13 +2,13 @@
 ghost use Rattle.std.specs.Prelude.{◌≡◌};
 ghost use Rattle.trial.specs.declared.stop.Stop.TheVariants.{Memory, Refused};
 
-use circuit::Refusal;
+use fitting::Unfit;
 use std::alloc::AllocError;
 
 #[derive(Clone, Copy)]
 pub enum Stop {
     // A circuit or a script is turned away.
-    Refused(Refusal),
+    Refused(Unfit),
     // Memory is short.
     Memory,
 }
@@ -21,10 +21,10 @@ impl From<AllocError> for Stop {
     }
 }
 
-impl From<Refusal> for Stop {
+impl From<Unfit> for Stop {
     ghost from_gives = { λ r e. e ≡ Refused r };
 
-    fn from(r: Refusal) -> Stop {
+    fn from(r: Unfit) -> Stop {
         Stop::Refused(r)
     }
 }

@@ -1,15 +1,15 @@
 -- Two small machines that weaker tests let through, and runs in which they go wrong.
-use Rattle.std.proofs.Common.{◌≡◌, ℕ, zero, suc, ◌+◌, ◌-◌, ◌*◌, ◌%◌, ◌<◌, ◌≤◌, min, max, Bool, true, false, cond, not, ◌&&◌, eqb, ltb, [], ◌∷◌, length, sym, refl, ap, ◌∙◌, ap₂, inl, inr, arith}
+use Rattle.std.proofs.Common.{◌≡◌, ℕ, zero, suc, ◌+◌, ◌-◌, ◌*◌, ◌%◌, ◌<◌, ◌≤◌, Bool, true, false, not, eqb, ltb, [], ◌∷◌, sym, refl, ◌∙◌, ap₂, inl, inr, arith}
 use Rattle.std.proofs.lemmas.Bool.{lt-ltb, le-ltb, eq-eqb, ne_eqb, cases_eq, true≢false}
-use Rattle.circuit.specs.Gate.{Gate, output}
-use Rattle.circuit.specs.Circuit.{Circuit, gate, along}
+use Rattle.circuit.specs.Gate.{output}
+use Rattle.circuit.specs.Circuit.{along}
 use Rattle.drawing.specs.Drawing.{ideal, held}
 use Rattle.arrival.specs.Arrival.{arrival}
-use Rattle.arrival.specs.Window.{Wave, Follows}
+use Rattle.arrival.specs.Window.{Wave}
 use Rattle.promise.specs.Machine.{Machine, Formed, drawing}
 use Rattle.promise.specs.Run.{Run}
-use Rattle.worked.specs.Weaker.{GoesWrong, AtMost, OneClock, Steady, KeptDelays, WeakerTestsFail}
-use Rattle.worked.proofs.Trying.{Every, each}
+use Rattle.worked.specs.Weaker.{GoesWrong, AtMost, OneClock, KeptDelays, WeakerTestsFail}
+use Rattle.worked.proofs.Trying.{each}
 
 -- two registers that exchange their bits with no gate between them
 exchange : Machine

@@ -1,11 +1,11 @@
 -- The words of the table, computed.
-use Rattle.std.proofs.Common.{◌≡◌, ℕ, zero, suc, ◌+◌, ◌<◌, ◌≤◌, min, max, [], ◌∷◌, length, refl, arith}
+use Rattle.std.proofs.Common.{◌≡◌, ℕ, zero, suc, ◌+◌, ◌<◌, ◌≤◌, [], ◌∷◌, length, refl, arith}
 use Rattle.circuit.specs.Circuit.{gate, signals, along}
 use Rattle.circuit.specs.Lent.{gates_in}
 use Rattle.arrival.specs.Arrival.{arrival}
 use Rattle.path.specs.Path.{told, written_steps}
 use Rattle.promise.specs.Machine.{Machine, SetupKept, HoldKept, Passed}
-use Rattle.worked.specs.Rows.{Row, Has, inverter, counter, and_not, passed, too_late, too_early, rows, RowsHave}
+use Rattle.worked.specs.Rows.{Row, Has, inverter, counter, and_not, passed, too_late, too_early, RowsHave}
 
 -- what holds of each number below n, written out
 abbrev pub Every : ℕ → (ℕ → Type 0) → Type 0

@@ -1,4 +1,3 @@
-use Rattle.std.proofs.Common.{rules}
 use Rattle.text.specs.Meaning.{drafted}
 use Rattle.answer.proofs.Saying.{said_passed}
 use Rattle.answer.proofs.judge.Goals as goal

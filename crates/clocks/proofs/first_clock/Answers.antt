@@ -1,4 +1,4 @@
-use Rattle.std.proofs.Common.{◌≡◌, ℕ, ◌*◌, ◌∙◌, arith}
+use Rattle.std.proofs.Common.{◌≡◌, ℕ, ◌*◌, arith}
 use Rattle.circuit.specs.Lent.{period}
 use Rattle.clocks.proofs.Nexts.{clock_first}
 use Rattle.clocks.proofs.first_clock.Goals as goal

@@ -1,4 +1,4 @@
-use Rattle.std.proofs.Common.{◌≡◌, ℕ, suc, ◌+◌, ◌*◌, max, ◌∙◌, ap₂, arith}
+use Rattle.std.proofs.Common.{◌≡◌, suc, ◌+◌, ◌*◌, max, ◌∙◌, ap₂, arith}
 use Rattle.circuit.specs.Lent.{early, late, period}
 use Rattle.script.specs.Told.{clock_between}
 use Rattle.clocks.proofs.Nexts.{clock_next}

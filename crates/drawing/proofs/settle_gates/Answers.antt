@@ -1,4 +1,4 @@
-use Rattle.std.proofs.Common.{refl, arith, rules}
+use Rattle.std.proofs.Common.{arith, rules}
 use Rattle.std.proofs.lemmas.List.{take_rest}
 use Rattle.drawing.proofs.Settling.{none_yet, ready, one_more, all_done}
 use Rattle.drawing.proofs.settle_gates.Goals as goal

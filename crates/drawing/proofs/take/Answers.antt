@@ -1,4 +1,4 @@
-use Rattle.std.proofs.Common.{refl, arith, rules}
+use Rattle.std.proofs.Common.{refl, arith}
 use Rattle.circuit.proofs.Filling.{filled_more}
 use Rattle.drawing.proofs.take.Goals as goal
 

@@ -1,5 +1,5 @@
-use Rattle.std.proofs.Common.{sym, refl, ap, ◌∙◌, rules}
-use Rattle.fields.specs.Fields.{field, named}
+use Rattle.std.proofs.Common.{rules}
+use Rattle.fields.specs.Fields.{field}
 use Rattle.fields.proofs.field.Goals as goal
 
 pub returns-then-not-table : goal.returns-then-not-table

@@ -1,4 +1,3 @@
-use Rattle.std.proofs.Common.{refl, ◌∙◌}
 use Rattle.lines.specs.Words.{words, blank}
 use Rattle.fields.specs.Fields.{named}
 use Rattle.fields.proofs.table_of.Goals as goal

@@ -1,4 +1,3 @@
-use Rattle.std.proofs.Common.{sym, refl, ap, ◌∙◌, arith, rules}
 use Rattle.std.proofs.lemmas.List.{take_rest}
 use Rattle.lines.proofs.WordLaws.{first_word}
 use Rattle.lines.proofs.word.Goals as goal

@@ -1,4 +1,4 @@
-use Rattle.std.proofs.Common.{length, ap, arith, rules}
+use Rattle.std.proofs.Common.{length, ap, arith}
 use Rattle.circuit.proofs.LentLaws.{sound_in}
 use Rattle.path.proofs.Telling.{told_back, told_source_lent}
 use Rattle.path.proofs.gates_on.Goals as goal

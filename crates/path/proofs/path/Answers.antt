@@ -1,4 +1,4 @@
-use Rattle.std.proofs.Common.{◌≡◌, ◌+◌, ◌*◌, length, refl, ap, inl, inr, arith}
+use Rattle.std.proofs.Common.{◌≡◌, ◌+◌, ◌*◌, length, refl, ap, inr, arith}
 use Rattle.circuit.specs.Lent.{register_count, drawn}
 use Rattle.circuit.specs.declared.refusal.Refusal.TheVariants.{NoRoom}
 use Rattle.circuit.proofs.LentLaws.{sound_in}

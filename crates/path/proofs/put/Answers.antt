@@ -1,4 +1,4 @@
-use Rattle.std.proofs.Common.{refl, arith, rules}
+use Rattle.std.proofs.Common.{refl, arith}
 use Rattle.circuit.proofs.LentLaws.{sound_in}
 use Rattle.path.proofs.Telling.{told_back, told_source_lent}
 use Rattle.path.proofs.Writing.{none_yet, one_step, at_least, all_written}

@@ -1,4 +1,4 @@
-use Rattle.std.proofs.Common.{◌-◌, set, ap, rules}
+use Rattle.std.proofs.Common.{◌-◌, set, ap}
 use Rattle.path.proofs.Writing.{bit_is}
 use Rattle.path.proofs.put_step.Goals as goal
 

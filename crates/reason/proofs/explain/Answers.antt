@@ -1,4 +1,4 @@
-use Rattle.std.proofs.Common.{arith, rules}
+use Rattle.std.proofs.Common.{arith}
 use Rattle.circuit.proofs.Order.{shaped_before}
 use Rattle.reason.proofs.explain.Goals as goal
 

@@ -1,4 +1,4 @@
-use Rattle.std.proofs.Common.{◌+◌, ◌*◌, ◌^◌, ◌<◌, get_or, arith, rules}
+use Rattle.std.proofs.Common.{◌*◌, get_or, rules}
 use Rattle.circuit.proofs.Joined.{small_times}
 use Rattle.circuit.proofs.LentLaws.{sound_in}
 use Rattle.arrival.specs.declared.edge.Edge.TheVariants.{Late}

@@ -1,4 +1,4 @@
-use Rattle.std.proofs.Common.{sym, ◌∙◌, rules}
+use Rattle.std.proofs.Common.{rules}
 use Rattle.text.proofs.MeaningLaws.{unprintable, printable_more, printable_all}
 use Rattle.text.proofs.all_printable.Goals as goal
 

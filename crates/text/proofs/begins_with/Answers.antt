@@ -1,4 +1,4 @@
-use Rattle.std.proofs.Common.{ap, ◌∙◌, rules}
+use Rattle.std.proofs.Common.{rules}
 use Rattle.text.proofs.MeaningLaws.{no_first, a_first}
 use Rattle.text.proofs.begins_with.Goals as goal
 

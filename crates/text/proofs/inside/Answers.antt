@@ -1,4 +1,4 @@
-use Rattle.std.proofs.Common.{◌⊎◌, sym, refl, ap, ◌∙◌, inl, inr, arith, rules}
+use Rattle.std.proofs.Common.{refl, ◌∙◌, inl, inr, arith, rules}
 use Rattle.text.proofs.MeaningLaws.{one_line, no_line}
 use Rattle.text.proofs.inside.Goals as goal
 

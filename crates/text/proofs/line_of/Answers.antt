@@ -1,4 +1,4 @@
-use Rattle.std.proofs.Common.{sym, refl, ap, ◌∙◌, arith, rules}
+use Rattle.std.proofs.Common.{sym, ◌∙◌, arith, rules}
 use Rattle.text.proofs.MeaningLaws.{other_passed, found_here, one_passed, none_passed}
 use Rattle.text.proofs.line_of.Goals as goal
 use Rattle.text.proofs.line_of.Goals.{then-begins_with+else-left-eq0, else-begins_with}

@@ -1,4 +1,4 @@
-use Rattle.std.proofs.Common.{arith, rules}
+use Rattle.std.proofs.Common.{arith}
 use Rattle.circuit.proofs.Joined.{small_gates}
 use Rattle.circuit.proofs.LentLaws.{sound_over}
 use Rattle.arrival.proofs.filling.fill.Goals as goal

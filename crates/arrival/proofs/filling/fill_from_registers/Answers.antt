@@ -1,4 +1,4 @@
-use Rattle.std.proofs.Common.{arith, rules}
+use Rattle.std.proofs.Common.{arith}
 use Rattle.circuit.proofs.Joined.{small_gates, small_registers, small_times}
 use Rattle.circuit.proofs.LentLaws.{sound_in}
 use Rattle.arrival.specs.declared.edge.Edge.TheVariants.{Late, Early}

@@ -1,4 +1,4 @@
-use Rattle.std.proofs.Common.{arith, rules}
+use Rattle.std.proofs.Common.{arith}
 use Rattle.circuit.proofs.LentLaws.{inputs_before}
 use Rattle.arrival.specs.declared.edge.Edge.TheVariants.{Late, Early}
 use Rattle.arrival.proofs.Turns.{start, ready, turn}

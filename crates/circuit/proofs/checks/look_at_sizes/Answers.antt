@@ -1,6 +1,6 @@
 use Rattle.std.proofs.Common.{ℕ, arith, rules}
 use Rattle.circuit.specs.Whole.{Small}
-use Rattle.circuit.proofs.Joined.{in_gates, in_registers, in_times, gates_small, registers_small, times_small, all_small, first_large}
+use Rattle.circuit.proofs.Joined.{in_gates, in_registers, in_times, registers_small, times_small, all_small, first_large}
 use Rattle.circuit.proofs.checks.look_at_sizes.Goals as goal
 
 pub returns-in-Some : goal.returns-in-Some

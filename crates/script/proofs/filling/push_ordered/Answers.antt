@@ -1,5 +1,4 @@
-use Rattle.std.proofs.Common.{◌≡◌, ◌-◌, ◌<◌, [], ◌∷◌, ◌++◌, length, vec_items, sym, refl, arith}
-use Rattle.script.specs.Entries.{entry}
+use Rattle.std.proofs.Common.{◌-◌, length, vec_items, refl, arith}
 use Rattle.script.proofs.Pushing.{ordered_push}
 use Rattle.script.proofs.filling.push_ordered.Goals as goal
 

@@ -1,5 +1,4 @@
-use Rattle.std.proofs.Common.{◌≡◌, sym, ◌∙◌, arith}
-use Rattle.script.specs.Entries.{entry}
+use Rattle.std.proofs.Common.{sym, ◌∙◌, arith}
 use Rattle.script.proofs.Last.{last_none, last_hit, last_miss, last_rest, other_cycle, other_register, this_one}
 use Rattle.script.proofs.finding.said_in.Goals as goal
 use Rattle.script.proofs.finding.said_in.Goals.{then-e-who, else-e-who}

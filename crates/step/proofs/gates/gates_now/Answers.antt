@@ -1,5 +1,5 @@
-use Rattle.std.proofs.Common.{◌≡◌, ◌+◌, arith}
-use Rattle.circuit.specs.Lent.{gate_count, register_count}
+use Rattle.std.proofs.Common.{◌≡◌, arith}
+use Rattle.circuit.specs.Lent.{gate_count}
 use Rattle.step.proofs.Remembering.{none_yet, one_more}
 use Rattle.step.proofs.gates.gates_now.Goals as goal
 

@@ -1,4 +1,4 @@
-use Rattle.std.proofs.Common.{sym, ◌∙◌, ap₂, arith}
+use Rattle.std.proofs.Common.{sym, ◌∙◌, arith}
 use Rattle.simulation.proofs.Running.{settled_kept, settled_not}
 use Rattle.step.proofs.Deciding.{differ}
 use Rattle.step.proofs.registers.settled_bit.Goals as goal

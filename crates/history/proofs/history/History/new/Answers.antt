@@ -1,4 +1,4 @@
-use Rattle.std.proofs.Common.{◌≡◌, ◌*◌, ◌%◌, ◌^◌, refl, arith}
+use Rattle.std.proofs.Common.{refl, arith}
 use Rattle.std.proofs.lemmas.Nat.{shl_whole}
 use Rattle.history.proofs.Ringing.{fresh_of}
 use Rattle.history.proofs.history.History.new.Goals as goal

@@ -1,7 +1,7 @@
-use Rattle.std.proofs.Common.{length, refl, ap, ◌∙◌, arith}
+use Rattle.std.proofs.Common.{refl, ap, ◌∙◌, arith}
 use Rattle.std.proofs.lemmas.List.{with_items_is}
 use Rattle.history.specs.Kept.{bit_in}
-use Rattle.history.proofs.Ringing.{put_into, put_nowhere}
+use Rattle.history.proofs.Ringing.{put_into}
 use Rattle.history.proofs.history.History.put.Goals as goal
 
 pub returns-then-row-self : goal.returns-then-row-self
