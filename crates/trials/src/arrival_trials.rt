@@ -85,10 +85,10 @@ fn ties_and_room(rt: HostRuntime) -> Result<(), Fail> {
     let a = Arrivals::new(c, &last, &first);
     let mut room = [9; 6];
     assert_eq!(rt; path(a, Edge::Late, 3, &mut room), Ok(5));
-    assert!(rt; &room[0..6] == &[0, 2, 0, 3, 0, 9]);
+    assert!(rt; &room[0..6] == [0, 2, 0, 3, 0, 9].as_slice());
     let mut short = [9; 4];
     assert_eq!(rt; path(a, Edge::Late, 3, &mut short), Err(Refusal::NoRoom(5)));
-    assert!(rt; &short[0..4] == &[9; 4]);
+    assert!(rt; &short[0..4] == [9; 4].as_slice());
     assert_eq!(rt;
         path(a, Edge::Late, 4, &mut short),
         Err(Refusal::NoSignal(4))

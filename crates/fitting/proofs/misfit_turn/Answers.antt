@@ -11,9 +11,9 @@ pub loop-i-preserved : goal.loop-i-preserved
 loop-i-preserved c =
     let order : Ordered c.as_slice-entries.result.now = rw c.as_slice-entries.ensures.value c.args.script.now.clocks_ordered in
     elim c.if-e-r.branch [
-      | then-e-r+then-when-gt0 w ↦ rw (w.first-is, w.n-is, w.clock_is)
+      | then-e-r+then-when-gt0 w ↦ rw (w.first-is, w.n-is, w.clock-is)
           (looked_at c.loop-i.invariant _ _ order c.loop-i-test.true w.if-e-r.true w.if-when-gt0.true (omega arith) w.walk-clock.ensures.value w.walk-clock.ensures.bound w.noted-first.ensures)
-      | else-e-r w ↦ rw (w.first-is, w.n-is, w.clock_is) (passed_by c.loop-i.invariant (elim w.else-e-r.either [ inl a ↦ inr (omega arith) | inr b ↦ inl b ]))
+      | else-e-r w ↦ rw (w.first-is, w.n-is, w.clock-is) (passed_by c.loop-i.invariant (elim w.else-e-r.either [ inl a ↦ inr (omega arith) | inr b ↦ inl b ]))
     ]
 
 pub returns : goal.returns

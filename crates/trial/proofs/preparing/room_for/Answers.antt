@@ -6,7 +6,7 @@ pub returns : goal.returns
 returns c =
     let bits = c.in_ok-bits.ensures in
     let cycles = c.in_ok-cycles.ensures in
-    let zero : (q : ℕ) → ◌≡◌ {A = ℕ} (get_or (vec_items c.in_ok-cycles.cycles) q 0) 0 = λ q. rw (cycles.items-if-clones-equal (λ y e. e)) (all_same _ q 0) in
+    let zero : (q : ℕ) → ◌≡◌ {A = ℕ} (get_or (vec_items c.in_ok-cycles.cycles) q 0) 0 = λ q. rw (cycles.items_if_clones_equal (λ y e. e)) (all_same _ q 0) in
     record {
       roomy = record {
         wide = c.in_ok-past.ensures;
