@@ -8,11 +8,10 @@ ghost use Rattle.fitting.specs.Misfit.{FirstMisfit, earlier, ClockWithin, TurnOf
 
 mod unfit;
 
-pub use unfit::Unfit;
-
 use circuit::Circuit;
 use clocks::{first_clock, next_clock};
 use script::{Entry, Script};
+pub use unfit::Unfit;
 
 // The earlier of two lines.
 fn earlier(a: Option<usize>, b: Option<usize>) -> Option<usize>
