@@ -12,9 +12,9 @@ returns c =
         wide = c.in_ok-past.ensures;
         rows = bits.rows;
         cycles_each = omega (arith, cycles.len, c.in_ok-cycles.cycles.ok.0);
-        latest = c.latest_clock-latest.ensures.0;
+        latest = c.latest_clock-latest.ensures.by_index;
         apart = bits.apart;
-        small = c.latest_clock-latest.ensures.1;
+        small = c.latest_clock-latest.ensures.upper_bound;
       };
       bits = bits.start;
       cycles = zero;

@@ -3,13 +3,13 @@ use Rattle.trial.specs.Made.{SameCycle}
 use Rattle.trial.proofs.Runs.{same_through, same_cycles, end_small, cycle_is_done}
 use Rattle.trial.proofs.running.Trial.cycle.Goals as goal
 
-pub invariant-of-self-2 : goal.invariant-of-self-2
-invariant-of-self-2 c =
+pub invariant_of-self-2 : goal.invariant_of-self-2
+invariant_of-self-2 c =
     let z = c.step.new.self in
     let same : SameCycle c.args.self.now z = same_through c.loop.invariant c.step.ensures.cycle_same in
     let few = same_cycles c.args.self.now z same in
     let done = same.done_same in
-    (z.standing, (omega arith, (omega (arith, z.within), (end_small z (omega arith), (omega (arith, z.end), tt)))))
+    record { standing = z.standing; few = omega arith; within = omega (arith, z.within); small = end_small z (omega arith); end = omega (arith, z.end) }
 
 pub returns : goal.returns
 returns c =

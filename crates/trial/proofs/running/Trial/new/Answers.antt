@@ -1,5 +1,5 @@
 use Rattle.std.proofs.Common.{arith}
 use Rattle.trial.proofs.running.Trial.new.Goals as goal
 
-pub invariant-of-result : goal.invariant-of-result
-invariant-of-result c = (∣ c.requires ∣₁, (omega arith, (omega arith, (omega arith, (omega arith, tt)))))
+pub invariant_of-result : goal.invariant_of-result
+invariant_of-result c = record { standing = ∣ c.requires ∣₁; few = omega arith; within = omega arith; small = omega arith; end = omega arith }

@@ -4,14 +4,14 @@ use Rattle.std.proofs.lemmas.Bool.{both_ways}
 use Rattle.trial.proofs.Runs.{goes_on}
 use Rattle.trial.proofs.running.Trial.step.Goals as goal
 
-pub invariant-of-self : goal.invariant-of-self
-invariant-of-self c =
+pub invariant_of-self : goal.invariant_of-self
+invariant_of-self c =
     let y = c.args.self.now in
     let latest = c.go-went.ensures.latest_same in
-    (∥∥₁_map y.standing (λ standing. rw (add-one y.moment) (c.go-went.ensures.goes standing (omega arith)).1), (y.few, (omega arith, (y.small, (rw latest y.end, tt)))))
+    record { standing = ∥∥₁_map y.standing (λ standing. rw (add-one y.moment) (c.go-went.ensures.goes standing (omega arith)).1); few = y.few; within = omega arith; small = y.small; end = rw latest y.end }
 
-pub invariant-of-self-else-went : goal.invariant-of-self-else-went
-invariant-of-self-else-went c =
+pub invariant_of-self-else-went : goal.invariant_of-self-else-went
+invariant_of-self-else-went c =
     let y = c.args.self.now in
     absurd (both_ways c.go-went.result c.if-went.false (goes_on _ _ _ _ y.moment y.room _ c.go-went.result y.standing (omega arith) c.go-went.ensures))
 
