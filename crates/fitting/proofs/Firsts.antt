@@ -1,6 +1,6 @@
 -- The first line of a misfit, statement by statement.
-use Rattle.std.proofs.Common.{◌≡◌, ℕ, ◌+◌, ◌<◌, ◌≤◌, min, Bool, true, false, cond, List, Some, None, Option, sym, refl, ◌∙◌, inl, inr, arith, below_more}
-use Rattle.std.proofs.lemmas.Bool.{cases_lt, cases_eq}
+use Rattle.std.proofs.Common.{◌≡◌, ℕ, ◌+◌, ◌<◌, min, Bool, true, false, cond, List, Some, None, Option, refl, inl, inr, arith, below_more}
+use Rattle.std.proofs.lemmas.Bool.{cases_lt}
 use Rattle.script.specs.declared.entry.Entry.{Entry}
 use Rattle.script.specs.Entries.{entry}
 use Rattle.fitting.specs.Misfit.{FirstMisfit, earlier}

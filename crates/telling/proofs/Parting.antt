@@ -1,13 +1,13 @@
 -- The parts of a teller, by what is done to their lists.
-use Rattle.std.proofs.Common.{◌≡◌, ℕ, suc, ◌≤◌, Bool, List, length, vec_items, Option, sym, refl, ◌∙◌, arith}
+use Rattle.std.proofs.Common.{◌≡◌, ℕ, Bool, List, length, vec_items, Option, arith}
 use Rattle.circuit.specs.Lent.{gate_count, register_count}
 use Rattle.script.specs.declared.entry.Entry.{Entry}
 use Rattle.script.specs.declared.script.Script.{Script}
 use Rattle.telling.specs.declared.teller.Delays.{Delays}
 use Rattle.telling.specs.declared.teller.Shows.{Shows}
 use Rattle.telling.specs.declared.teller.Clocks.{Clocks}
-use Rattle.telling.specs.Said.{DoneBefore, KeptOn, DelaysTold, ShowsTold, Followed}
-use Rattle.telling.specs.Parts.{DelaysSized, DelaysOn, ShowsOn, ClocksOn}
+use Rattle.telling.specs.Said.{KeptOn, DelaysTold, ShowsTold, Followed}
+use Rattle.telling.specs.Parts.{DelaysOn, ShowsOn, ClocksOn}
 
 pub delays_on : (s : Script) (g : List ℕ) (t : ℕ) (y y' : Delays) (now : List ℕ) (said : List (Option Entry)) → vec_items y'.now ≡ now → vec_items y'.said ≡ said →
     length now ≡ length (vec_items y.now) → length said ≡ length (vec_items y.said) →

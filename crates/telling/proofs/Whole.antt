@@ -1,5 +1,5 @@
 -- What the parts of a teller tell is what the script tells.
-use Rattle.std.proofs.Common.{◌≡◌, ℕ, suc, ◌+◌, ◌*◌, ◌<◌, ◌≤◌, Bool, true, false, ◌&&◌, eqb, leb, List, length, get_or, None, vec_items, Option, sym, refl, ap, ◌∙◌, inl, inr, arith}
+use Rattle.std.proofs.Common.{◌≡◌, ℕ, suc, ◌<◌, ◌≤◌, List, length, get_or, None, vec_items, Option, sym, ap, ◌∙◌, arith}
 use Rattle.std.proofs.lemmas.Bool.{le-leb, lt-leb, and_left}
 use Rattle.circuit.specs.Lent.{gate_count, register_count}
 use Rattle.circuit.proofs.LentLaws.{gates_in_length}
@@ -15,8 +15,8 @@ use Rattle.telling.specs.declared.teller.Shows.{Shows}
 use Rattle.telling.specs.declared.teller.Clocks.{Clocks}
 use Rattle.telling.specs.declared.teller.Teller.{Teller}
 use Rattle.telling.specs.Said.{DoneBefore, Said, one_of, two_of, show_of}
-use Rattle.telling.specs.Parts.{DelaysSized, ShowsSized, ClocksSized, DelaysKnow, ShowsKnow, ClocksKnow, DelaysOn, ShowsOn, ClocksOn, ComesTo}
-use Rattle.telling.specs.Knows.{Sized, Knows, ToldOn}
+use Rattle.telling.specs.Parts.{DelaysSized, ShowsSized, DelaysKnow, ShowsKnow, ClocksKnow, DelaysOn, ShowsOn, ClocksOn, ComesTo}
+use Rattle.telling.specs.Knows.{ToldOn}
 
 -- of the statements up to moment t the last about a gate or register is the last that is due
 due_last : (es : List Entry) (t i k : ℕ) → DoneBefore es (suc t) i → last_of (about k) es i ≡ said_by es t k

@@ -1,5 +1,5 @@
 -- What each part of a teller knows and tells.
-use Rattle.std.specs.Prelude.{◌≡◌, ℕ, suc, ◌*◌, ◌<◌, ◌≤◌, Bool, ◌⊎◌, List, length, vec_items, slice_index}
+use Rattle.std.specs.Prelude.{◌≡◌, ℕ, suc, ◌*◌, ◌<◌, ◌≤◌, ◌⊎◌, List, length, vec_items, slice_index}
 use Rattle.circuit.specs.Lent.{gate_count, register_count}
 use Rattle.clocks.specs.Small.{SmallClock}
 use Rattle.script.specs.declared.script.Script.{Script}
@@ -7,7 +7,7 @@ use Rattle.script.specs.Told.{clock_told}
 use Rattle.telling.specs.declared.teller.Delays.{Delays}
 use Rattle.telling.specs.declared.teller.Shows.{Shows}
 use Rattle.telling.specs.declared.teller.Clocks.{Clocks}
-use Rattle.telling.specs.Said.{DoneBefore, Said, KeptOn, DelaysTold, ShowsTold, ClocksTold, Followed}
+use Rattle.telling.specs.Said.{DoneBefore, Said, DelaysTold, ShowsTold, ClocksTold}
 
 -- places for the gates of a circuit
 pub record DelaysSized (g : List ℕ) (y : Delays) : Type 0 where

@@ -1,6 +1,6 @@
 -- What is told up to a moment, as it is kept.
-use Rattle.std.specs.Prelude.{◌≡◌, ℕ, suc, ◌+◌, ◌*◌, ◌/◌, ◌^◌, ◌<◌, ◌≤◌, Bool, false, ◌⊎◌, List, length, get_or, Some, None, Option, ◌≢◌, slice_index, slice_index_or}
-use Rattle.circuit.specs.Lent.{gate_in, period}
+use Rattle.std.specs.Prelude.{◌≡◌, ℕ, suc, ◌+◌, ◌*◌, ◌/◌, ◌^◌, ◌<◌, ◌≤◌, Bool, false, ◌⊎◌, List, length, get_or, None, Option, ◌≢◌, slice_index, slice_index_or}
+use Rattle.circuit.specs.Lent.{gate_in}
 use Rattle.clocks.specs.Small.{SmallClock}
 use Rattle.script.specs.declared.entry.Entry.{Entry}
 use Rattle.script.specs.declared.script.Script.{Script}

@@ -1,13 +1,13 @@
 -- One moment of a room that stands.
-use Rattle.std.proofs.Common.{◌≡◌, ℕ, suc, ◌+◌, ◌*◌, ◌^◌, ◌<◌, ◌≤◌, Bool, true, ◌⊎◌, List, length, get_or, is_ok, Ok, Err, vec_items, Result, sym, refl, ap, ◌∙◌, inl, inr, arith, MatchResult}
+use Rattle.std.proofs.Common.{◌≡◌, ℕ, suc, ◌+◌, ◌*◌, ◌^◌, ◌<◌, ◌≤◌, Bool, true, List, length, get_or, is_ok, Ok, Err, vec_items, Result, ◌∙◌, inl, inr, arith, MatchResult}
 use Rattle.std.proofs.lemmas.Nat.{mul-le}
 use Rattle.std.proofs.lemmas.Bool.{cases_lt}
-use Rattle.circuit.specs.Lent.{gate_count, register_count, period, late}
+use Rattle.circuit.specs.Lent.{register_count, period}
 use Rattle.circuit.specs.Whole.{Small}
 use Rattle.circuit.specs.declared.refusal.Refusal.{Refusal}
 use Rattle.circuit.proofs.Joined.{small_registers, small_times}
 use Rattle.promise.specs.Machine.{Machine, machine_in}
-use Rattle.simulation.specs.Simulated.{Told, cycle, Runnable, MayTell}
+use Rattle.simulation.specs.Simulated.{Told, cycle}
 use Rattle.simulation.proofs.Running.{cycle_from}
 use Rattle.step.specs.Lent.{TooFew}
 use Rattle.step.specs.Stands.{Ready, Steps, Given}
@@ -18,9 +18,9 @@ use Rattle.script.specs.declared.script.Script.{Script}
 use Rattle.script.specs.Told.{told_by, clock_told}
 use Rattle.script.proofs.Telling.{may_be_told}
 use Rattle.telling.specs.Parts.{ComesTo}
-use Rattle.telling.specs.Knows.{Knows, ToldOn}
+use Rattle.telling.specs.Knows.{ToldOn}
 use Rattle.trial.specs.declared.room.Room.{Room}
-use Rattle.trial.specs.Standing.{ReadyToGo, Roomy, Standing}
+use Rattle.trial.specs.Standing.{ReadyToGo, Standing}
 
 module _ (s : Script) (g r ts : List ℕ) where
   abbrev m : Machine

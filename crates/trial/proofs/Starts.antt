@@ -1,18 +1,18 @@
 -- A room before the first moment.
-use Rattle.std.proofs.Common.{◌≡◌, ℕ, ◌+◌, ◌-◌, ◌*◌, ◌/◌, ◌<◌, ◌≤◌, max, Bool, List, get_or, IfOk, Ok, Err, vec_items, Result, sym, refl, ap, ◌∙◌, inl, inr, arith}
+use Rattle.std.proofs.Common.{◌≡◌, ℕ, ◌+◌, ◌-◌, ◌/◌, ◌<◌, ◌≤◌, max, Bool, List, get_or, IfOk, Ok, Err, vec_items, Result, sym, refl, ap, ◌∙◌, inl, inr, arith}
 use Rattle.std.proofs.lemmas.Nat.{le-div, div-add-mod'}
 use Rattle.std.proofs.lemmas.Bool.{cases_eq}
 use Rattle.circuit.specs.Lent.{gate_count, register_count, gate_in, early, period, setup, output_late}
 use Rattle.circuit.proofs.LentLaws.{gates_in_length, gates_in_at}
 use Rattle.promise.specs.Machine.{machine_in}
 use Rattle.history.specs.declared.history.History.{History}
-use Rattle.history.specs.Kept.{kept, span, Put, Fresh}
+use Rattle.history.specs.Kept.{kept, Put, Fresh}
 use Rattle.simulation.specs.Simulated.{cycle, bits}
 use Rattle.step.specs.Stands.{Wide, Stands}
 use Rattle.script.specs.declared.script.Script.{Script}
 use Rattle.script.specs.Told.{start_told, told_by}
 use Rattle.trial.specs.declared.room.Room.{Room}
-use Rattle.trial.specs.Standing.{ReadyToGo, Roomy, Started, BitsReady, Furnished, Standing}
+use Rattle.trial.specs.Standing.{ReadyToGo, Started, BitsReady, Furnished, Standing}
 
 less_apart : (a b k : ℕ) → 0 < k → a ≤ b → a / k ≤ b / k
 less_apart a b k pos l = le-div (a / k) b k pos (omega (arith, div-add-mod' a k))

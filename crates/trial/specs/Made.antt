@@ -1,12 +1,12 @@
 -- What a run gives, cycle by cycle.
-use Rattle.std.specs.Prelude.{◌≡◌, ℕ, suc, ◌+◌, ◌-◌, ◌<◌, Bool, true, false, List, length, Ok, Err, Result}
+use Rattle.std.specs.Prelude.{◌≡◌, ℕ, suc, ◌<◌, Bool, true, false, List, length, Ok, Err, Result}
 use Rattle.circuit.specs.Filled.{Filled}
 use Rattle.circuit.specs.Lent.{register_count}
 use Rattle.circuit.specs.declared.refusal.Refusal.{Refusal}
 use Rattle.circuit.specs.declared.refusal.Refusal.TheVariants.{NoRoom}
 use Rattle.promise.specs.Machine.{Machine, machine_in, Passed, drawing}
 use Rattle.script.specs.Told.{told_by}
-use Rattle.simulation.specs.Simulated.{Told, run_bits, run_waves}
+use Rattle.simulation.specs.Simulated.{Told, run_bits}
 use Rattle.trial.specs.declared.running.Trial.{Trial}
 
 -- the machine of a run, and what it is told

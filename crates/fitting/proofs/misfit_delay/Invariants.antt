@@ -1,4 +1,3 @@
-use Rattle.std.proofs.Common.{vec_items}
 use Rattle.script.specs.Told.{DelayFits}
 use Rattle.fitting.specs.Misfit.{FirstMisfit}
 use Rattle.fitting.proofs.misfit_delay.Given as goal

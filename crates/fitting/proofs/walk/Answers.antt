@@ -1,4 +1,4 @@
-use Rattle.std.proofs.Common.{◌≡◌, suc, ◌+◌, ◌*◌, ◌^◌, add-one, arith}
+use Rattle.std.proofs.Common.{◌+◌, ◌^◌, add-one, arith}
 use Rattle.circuit.specs.Lent.{period}
 use Rattle.circuit.proofs.Joined.{small_times}
 use Rattle.std.proofs.lemmas.Nat.{mul-le}

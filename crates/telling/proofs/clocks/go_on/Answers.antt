@@ -1,4 +1,4 @@
-use Rattle.std.proofs.Common.{◌≡◌, ℕ, suc, ◌+◌, ap, ◌∙◌, arith}
+use Rattle.std.proofs.Common.{◌≡◌, ℕ, suc, ap, ◌∙◌, arith}
 use Rattle.script.specs.Told.{clock_told, take_told}
 use Rattle.telling.proofs.Following.{goes_on}
 use Rattle.telling.proofs.clocks.go_on.Goals as goal

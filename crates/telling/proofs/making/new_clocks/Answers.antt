@@ -1,4 +1,4 @@
-use Rattle.std.proofs.Common.{◌≡◌, ℕ, get_or, vec_items, refl, ap, arith}
+use Rattle.std.proofs.Common.{◌≡◌, ℕ, get_or, vec_items, arith}
 use Rattle.std.proofs.lemmas.List.{with_items_is}
 use Rattle.telling.proofs.Beginning.{all_same}
 use Rattle.telling.proofs.making.new_clocks.Goals as goal
