@@ -1,7 +1,7 @@
 #!/usr/bin/env python3
 """Compares the words of `pass` with those of an implementation of its own, on random circuits.
 
-    tests/random_words.py [COUNT]      (6000 circuits if not told; needs a built target/bin/pass)"""
+    tests/random_words.py [COUNT]      (6000 circuits if not told; needs a built pass: ./muleminute pass --version builds it)"""
 import os
 import random
 import subprocess
@@ -9,7 +9,7 @@ import sys
 import tempfile
 
 TOP = os.path.join(os.path.dirname(os.path.abspath(__file__)), "..")
-PASS = os.path.join(TOP, "target", "bin", "pass")
+PASS = os.path.join(TOP, "crates", "pass", "out", "pass")
 
 
 def arrivals(gates, sources, bound, choose):

@@ -1,9 +1,9 @@
 // pass: passes the circuits of files, or names what stands in their way.
 #![tactic(auto)]
 
-use anyhow::anyhow;
 use fields::{Expected, Fault};
 use std::io::{Read, Write};
+use std::process::ExitCode;
 use std::{env, fs, io};
 
 const USAGE: &str = "usage: pass [--exit-zero] [--help] [--version] FILE...";
@@ -215,13 +215,13 @@ fn run(rt: &HostRuntime) -> anyhow::Result<bool> {
     Ok(tally.sound && (tally.passed || o.exit_zero))
 }
 
-fn main(rt: HostRuntime) -> anyhow::Result<()> {
+fn main(rt: HostRuntime) -> ExitCode {
     match run(&rt) {
-        Ok(true) => Ok(()),
-        Ok(false) => Err(anyhow!("not all is passed")),
+        Ok(true) => ExitCode::SUCCESS,
+        Ok(false) => ExitCode::FAILURE,
         Err(e) => {
             let _ = eprintln!(rt; "pass: {e}");
-            Err(e)
+            ExitCode::FAILURE
         }
     }
 }
