@@ -1,11 +1,11 @@
 // What is told moment by moment.
 #![tactic(auto)]
 
-mod clocks;
 mod making;
 mod moments;
 mod parts;
 mod teller;
 mod telling;
+mod told_clocks;
 
 pub use teller::{Clocks, Delays, Shows, Teller};

@@ -3,8 +3,8 @@ ghost use Rattle.std.specs.Prelude.{◌≡◌, replicate, IfOk, None};
 ghost use Rattle.telling.specs.Knows.{Begins};
 ghost use Rattle.telling.specs.Parts.{DelaysNew, ShowsNew, ClocksNew};
 
-use crate::clocks::begin;
 use crate::teller::{Clocks, Delays, Shows, Teller};
+use crate::told_clocks::begin;
 use circuit::Circuit;
 use script::{Entry, Script};
 use std::alloc::{AllocError, Global};

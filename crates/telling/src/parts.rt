@@ -3,9 +3,9 @@ ghost use Rattle.std.specs.Prelude.{◌≤◌, length};
 ghost use Rattle.circuit.specs.Lent.{register_count};
 ghost use Rattle.telling.specs.Parts.{DelaysSized, ShowsSized, ClocksSized, DelaysOn, ShowsOn, ClocksOn};
 
-use crate::clocks::follow;
 use crate::moments::{fill_delays, fill_shows, keep_said};
 use crate::teller::{Clocks, Delays, Shows};
+use crate::told_clocks::follow;
 use circuit::Circuit;
 use script::Script;
 

@@ -131,7 +131,7 @@ unfoldable pub line_of : (word : List ℕ) (i n : ℕ) → List (List ℕ) → O
 line_of word i n [] = None
 line_of word i n (l ∷ ls) = cond (begins_with word (words (bare l))) (cond (i == 0) (Some n) (line_of word (i - 1) (n + 1) ls)) (line_of word i (n + 1) ls)
 
--- THE MEANING OF A TEXT is `first-circuit 1` of its lines, and then the same of the lines that are left.
+-- THE MEANING OF A TEXT is `first_circuit 1` of its lines, and then the same of the lines that are left.
 
 -- the code's answer r to the numbers x of line n, with their part and the miscounted line before and after it
 abbrev pub Added : Result (Option (List ℕ)) Expected → (e : Refusal) (n : ℕ) (part part' : List ℕ) (m m' : Option Miscount) → Result Bool Expected → Type 0

@@ -1,8 +1,8 @@
 use Rattle.std.proofs.Common.{◌≡◌, arith}
 use Rattle.circuit.specs.Lent.{register_count}
 use Rattle.telling.proofs.Following.{none_followed, same_followed, next_followed}
-use Rattle.telling.proofs.clocks.follow.Goals as goal
-use Rattle.telling.proofs.clocks.follow.Goals.{then-stood-r, else-stood-r}
+use Rattle.telling.proofs.told_clocks.follow.Goals as goal
+use Rattle.telling.proofs.told_clocks.follow.Goals.{then-stood-r, else-stood-r}
 
 pub loop-r-init : goal.loop-r-init
 loop-r-init c = none_followed _ _ _ _ _ _ _ _

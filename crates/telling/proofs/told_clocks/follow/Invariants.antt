@@ -1,5 +1,5 @@
 use Rattle.telling.specs.Said.{Followed}
-use Rattle.telling.proofs.clocks.follow.Given as goal
+use Rattle.telling.proofs.told_clocks.follow.Given as goal
 
 abbrev pub invariant-loop-r : goal.invariant-loop-r
 invariant-loop-r l =

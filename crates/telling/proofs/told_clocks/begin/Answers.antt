@@ -1,7 +1,7 @@
 use Rattle.std.proofs.Common.{refl, arith}
 use Rattle.circuit.proofs.Joined.{small_times}
 use Rattle.telling.proofs.Following.{begun_more}
-use Rattle.telling.proofs.clocks.begin.Goals as goal
+use Rattle.telling.proofs.told_clocks.begin.Goals as goal
 
 pub loop-r-preserved : goal.loop-r-preserved
 loop-r-preserved c =

@@ -1,7 +1,7 @@
 use Rattle.std.proofs.Common.{◌≡◌, ℕ, suc, ap, ◌∙◌, arith}
 use Rattle.script.specs.Told.{clock_told, take_told}
 use Rattle.telling.proofs.Following.{goes_on}
-use Rattle.telling.proofs.clocks.go_on.Goals as goal
+use Rattle.telling.proofs.told_clocks.go_on.Goals as goal
 
 pub returns : goal.returns
 returns c =
