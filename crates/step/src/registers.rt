@@ -1,5 +1,5 @@
 // The registers at one moment.
-ghost use Rattle.std.specs.Prelude.{◌≡◌, ℕ, ◌+◌, ◌-◌, ◌*◌, ◌<◌, ◌≤◌, ◌&&◌, leb, length, if◌then◌else◌, nat_le, nat_lt};
+ghost use Rattle.std.specs.Prelude.{◌≡◌, ℕ, ◌+◌, ◌-◌, ◌*◌, ◌<◌, ◌≤◌, ◌&&◌, length, if◌then◌else◌, nat_le, nat_lt};
 ghost use Rattle.circuit.specs.Lent.{register_count, output_early, output_late};
 ghost use Rattle.history.specs.Kept.{kept};
 ghost use Rattle.simulation.specs.Simulated.{settled};
@@ -34,7 +34,7 @@ fn reached(moment: u64, time: u32, t: u64) -> bool
 // output time after its clock until before the earliest after the next, else what is told.
 fn shown(times: &[u32], clock: u64, next: u64, t: u64, bit: bool, told: bool) -> bool
     requires { length times.now ≡ 5 }
-    ensures { result ≡ (if leb (clock + output_late times.now) t && nat_lt t (next + output_early times.now) then bit else told) }
+    ensures { result ≡ (if nat_le (clock + output_late times.now) t && nat_lt t (next + output_early times.now) then bit else told) }
 {
     if reached(clock, times[2], t) && !reached(next, times[1], t) {
         bit

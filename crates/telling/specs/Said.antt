@@ -1,5 +1,5 @@
 -- What is told up to a moment, as it is kept.
-use Rattle.std.specs.Prelude.{◌≡◌, ℕ, suc, ◌+◌, ◌*◌, ◌/◌, ◌^◌, ◌<◌, ◌≤◌, Bool, false, ◌⊎◌, List, length, get_or, None, Option, ◌≢◌, slice_index, slice_index_or}
+use Rattle.std.specs.Prelude.{◌≡◌, ℕ, suc, ◌+◌, ◌*◌, ◌/◌, ◌^◌, ◌<◌, ◌≤◌, Bool, false, ◌⊎◌, List, length, None, Option, ◌≢◌, slice_index, slice_index_or}
 use Rattle.circuit.specs.Lent.{gate_in}
 use Rattle.clocks.specs.Small.{SmallClock}
 use Rattle.script.specs.declared.entry.Entry.{Entry}
@@ -45,10 +45,10 @@ ShowsTold seed t said i shows = (q : ℕ) → q < i → slice_index_or shows q f
 
 -- register q's clocks of cycle n and the next two, and what it takes in the next
 pub record ClocksTold (s : Script) (g r ts : List ℕ) (q n : ℕ) (clocks : List ℕ) (takes : List Bool) : Type 0 where
-  pub clock : get_or clocks (3 * q) 0 ≡ clock_told s g r ts n q
-  pub next : get_or clocks (3 * q + 1) 0 ≡ clock_told s g r ts (suc n) q
-  pub after : get_or clocks (3 * q + 2) 0 ≡ clock_told s g r ts (suc (suc n)) q
-  pub take : get_or takes q false ≡ take_told s g r ts (suc n) q
+  pub clock : slice_index clocks (3 * q) ≡ clock_told s g r ts n q
+  pub next : slice_index clocks (3 * q + 1) ≡ clock_told s g r ts (suc n) q
+  pub after : slice_index clocks (3 * q + 2) ≡ clock_told s g r ts (suc (suc n)) q
+  pub take : slice_index_or takes q false ≡ take_told s g r ts (suc n) q
 
 -- register q has come to cycle n from the one before it, and its clocks and what it takes are told for that; other registers' are told as before
 pub record ClocksGoOn (s : Script) (g r ts : List ℕ) (q n : ℕ) (clocks clocks' : List ℕ) (takes takes' : List Bool) : Type 0 where

@@ -21,7 +21,7 @@ fn nothing_said(heap: Global, n: usize) -> Result<Vec<Option<Entry>>, AllocError
 }
 
 fn new_delays(heap: Global, circuit: Circuit<'_>) -> Result<Delays, AllocError>
-    ensures { ((s : Script) → IfOk result (λ y. DelaysNew s circuit.entry.gates.now y)) }
+    ensures { (s : Script) → IfOk result (λ y. DelaysNew s circuit.entry.gates.now y) }
 {
     let n = circuit.gates.len() / 7;
     Ok(Delays {
@@ -32,7 +32,7 @@ fn new_delays(heap: Global, circuit: Circuit<'_>) -> Result<Delays, AllocError>
 }
 
 fn new_shows(heap: Global, circuit: Circuit<'_>) -> Result<Shows, AllocError>
-    ensures { ((s : Script) → IfOk result (λ y. ShowsNew s circuit.entry.registers.now y)) }
+    ensures { (s : Script) → IfOk result (λ y. ShowsNew s circuit.entry.registers.now y) }
 {
     let n = circuit.registers.len() / 3;
     Ok(Shows {

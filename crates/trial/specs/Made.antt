@@ -2,11 +2,14 @@
 use Rattle.std.specs.Prelude.{◌≡◌, ℕ, suc, ◌<◌, Bool, true, false, List, length, Ok, Err, Result}
 use Rattle.circuit.specs.Filled.{Filled}
 use Rattle.circuit.specs.Lent.{register_count}
+use Rattle.circuit.specs.declared.circuit.Circuit.{Circuit}
 use Rattle.circuit.specs.declared.refusal.Refusal.{Refusal}
 use Rattle.circuit.specs.declared.refusal.Refusal.TheVariants.{NoRoom}
 use Rattle.promise.specs.Machine.{Machine, machine_in, Passed, drawing}
 use Rattle.script.specs.Told.{told_by}
+use Rattle.script.specs.declared.script.Script.{Script}
 use Rattle.simulation.specs.Simulated.{Told, run_bits}
+use Rattle.trial.specs.declared.room.Room.{Room}
 use Rattle.trial.specs.declared.running.Trial.{Trial}
 
 -- the machine of a run, and what it is told
@@ -15,6 +18,14 @@ machine_of y = machine_in y.circuit.gates.now y.circuit.registers.now y.circuit.
 
 abbrev pub told_to : Trial → Told
 told_to y = told_by y.script.now y.circuit.gates.now y.circuit.registers.now y.circuit.times.now
+
+-- a run before its first moment, of the circuit, the script and the room that it was given: no cycle is done
+pub record Begun (circuit : Circuit) (script : Script) (room : Room) (y : Trial) : Type 0 where
+  pub circuit_same : y.circuit ≡ circuit
+  pub script_same : y.script.now ≡ script
+  pub room_same : y.room ≡ room
+  pub moment : y.moment ≡ 0
+  pub done : y.done ≡ 0
 
 -- the same run, with as many cycles done, up to the same moment
 pub record SameCycle (y y' : Trial) : Type 0 where

@@ -3,7 +3,7 @@ ghost use Rattle.std.specs.Prelude.{◌≤◌, false, length};
 ghost use Rattle.circuit.specs.Filled.{Filled};
 ghost use Rattle.history.specs.Kept.{kept};
 ghost use Rattle.trial.specs.Standing.{Standing};
-ghost use Rattle.trial.specs.Made.{Stepped, CycleAnswer};
+ghost use Rattle.trial.specs.Made.{Begun, Stepped, CycleAnswer};
 
 use crate::going::go;
 use crate::room::Room;
@@ -26,6 +26,7 @@ impl<'a, 'b> Trial<'a, 'b> {
     // A run before its first moment, in a room that was prepared for it.
     pub fn new(circuit: Circuit<'a>, script: &'b Script, room: Room) -> Trial<'a, 'b>
         requires { Standing script.now circuit.gates.now circuit.registers.now circuit.times.now 0 room }
+        ensures { Begun circuit.entry script.now room result }
     {
         let late = circuit.times[2] as u64 + room.latest as u64;
         Trial {

@@ -1,8 +1,10 @@
-// Examples that are run: tables, circuits that are looked at, the drawing.
+// Examples that are run: tables, circuits that are looked at, the drawing, arrival times, circuits gone through time.
 #![tactic(auto)]
 
 #[cfg(test)]
 mod arrival_trials;
+#[cfg(test)]
+mod bench_trials;
 #[cfg(test)]
 mod drawing_trials;
 #[cfg(test)]
