@@ -5,17 +5,17 @@ use path::path;
 use std::process::Abort;
 use std::test::Fail;
 
-const ONE: [u32; 3] = [1, 0, 2];
+pub(crate) const ONE: [u32; 3] = [1, 0, 2];
 
-const TWO: [u32; 6] = [2, 0, 2, 3, 0, 2];
+pub(crate) const TWO: [u32; 6] = [2, 0, 2, 3, 0, 2];
 
 const TIMES: [u32; 5] = [20, 2, 4, 3, 1];
 
-const INVERTER: [u32; 7] = [0, 0, 1, 3, 8, 3, 8];
+pub(crate) const INVERTER: [u32; 7] = [0, 0, 1, 3, 8, 3, 8];
 
 const EARLY_INVERTER: [u32; 7] = [0, 0, 1, 1, 8, 1, 8];
 
-const COUNTER: [u32; 14] = [0, 0, 1, 3, 8, 3, 8, 0, 1, 6, 4, 9, 2, 7];
+pub(crate) const COUNTER: [u32; 14] = [0, 0, 1, 3, 8, 3, 8, 0, 1, 6, 4, 9, 2, 7];
 
 const AND_NOT: [u32; 14] = [0, 1, 8, 3, 5, 3, 5, 2, 2, 1, 3, 6, 3, 6];
 

@@ -1,27 +1,18 @@
 // Circuits that are gone through time, told and by a seed.
-use circuit::{Circuit, Refusal, look, table};
+use crate::arrival_trials::{COUNTER, INVERTER, ONE, TWO};
+use circuit::{Circuit, Refusal, look};
 use fitting::Unfit;
 use script::{Entry, Kind, Script};
 use std::alloc::{AllocError, Global};
 use std::test::Fail;
 use trial::{Stop, Trial, prepare};
 
-// Two registers that count to four.
-const COUNTER: [u32; 14] = [0, 0, table::NOR, 3, 8, 3, 8, 0, 1, table::XOR, 4, 9, 2, 7];
-
-const COUNTER_REGISTERS: [u32; 6] = [2, 0, 2, 3, 0, 2];
-
-// A register that takes its own bit turned round.
-const INVERTER: [u32; 7] = [0, 0, table::NOR, 3, 8, 3, 8];
-
-const INVERTER_REGISTERS: [u32; 3] = [1, 0, 2];
-
 // A counter whose delays, clocks and everything else are chosen anew at each moment counts.
 #[test]
 fn counter_by_a_seed(rt: HostRuntime) -> Result<(), Fail> {
     let times = [18, 2, 4, 3, 1];
-    look(&COUNTER, &COUNTER_REGISTERS, &times)?;
-    let c = Circuit::new(&COUNTER, &COUNTER_REGISTERS, &times);
+    look(&COUNTER, &TWO, &times)?;
+    let c = Circuit::new(&COUNTER, &TWO, &times);
     let mut script = Script::new(rt.alloc());
     script.cycles = 9;
     script.seed = Some(7);
@@ -66,8 +57,8 @@ fn slow(heap: Global) -> Result<Script, AllocError> {
 // The inverter's bit after two cycles with this period.
 fn inverted(rt: &HostRuntime, period: u32) -> Result<Option<bool>, Fail> {
     let times = [period, 2, 4, 3, 1];
-    look(&INVERTER, &INVERTER_REGISTERS, &times)?;
-    let c = Circuit::new(&INVERTER, &INVERTER_REGISTERS, &times);
+    look(&INVERTER, &ONE, &times)?;
+    let c = Circuit::new(&INVERTER, &ONE, &times);
     let script = slow(rt.alloc())?;
     let mut bits = [false];
     if let Ok(room) = prepare(rt.alloc(), c, &script) {
@@ -89,8 +80,8 @@ fn too_late_goes_wrong(rt: HostRuntime) -> Result<(), Fail> {
 
 // Why the inverter with these times is not let go with this statement.
 fn refused(rt: &HostRuntime, times: &[u32], kind: Kind, e: Entry) -> Result<Option<Unfit>, Fail> {
-    look(&INVERTER, &INVERTER_REGISTERS, times)?;
-    let c = Circuit::new(&INVERTER, &INVERTER_REGISTERS, times);
+    look(&INVERTER, &ONE, times)?;
+    let c = Circuit::new(&INVERTER, &ONE, times);
     let mut script = Script::new(rt.alloc());
     script.push(kind, e)?;
     match prepare(rt.alloc(), c, &script) {
