@@ -12,12 +12,15 @@ at_row n (suc k) xs (suc i) j h l =
     let e : n + (n * i + j) ≡ n * suc i + j = omega arith in
     at_row n k (drop n xs) i j (omega arith) l ∙ (get_or-drop n xs (n * i + j) 0 ∙ rw e)
 
+-- a row that has the numbers of gate k, or of register r, is that gate or register
+pub gate_like : (row xs : List ℕ) (k : ℕ) → ((j : ℕ) → j < 7 → get_or row j 0 ≡ get_or xs (7 * k + j) 0) → gate_of row ≡ gate_in xs k
+gate_like row xs k at = rw (at 0 (lit< tt), at 1 (lit< tt), at 2 (lit< tt), at 3 (lit< tt), at 4 (lit< tt), at 5 (lit< tt), at 6 (lit< tt), add-zero)
+
+pub register_like : (row xs : List ℕ) (r : ℕ) → ((j : ℕ) → j < 3 → get_or row j 0 ≡ get_or xs (3 * r + j) 0) → register_of row ≡ register_in xs r
+register_like row xs r at = rw (at 0 (lit< tt), at 1 (lit< tt), at 2 (lit< tt), add-zero)
+
 pub gate_at : (xs : List ℕ) (k : ℕ) → k < gate_count xs → gate_of (get_or (first_chunks 7 (gate_count xs) xs) k []) ≡ gate_in xs k
-gate_at xs k h =
-    let at : (j : ℕ) → j < 7 → get_or (get_or (first_chunks 7 (gate_count xs) xs) k []) j 0 ≡ get_or xs (7 * k + j) 0 = λ j l. at_row 7 (gate_count xs) xs k j h l in
-    rw (at 0 (lit< tt), at 1 (lit< tt), at 2 (lit< tt), at 3 (lit< tt), at 4 (lit< tt), at 5 (lit< tt), at 6 (lit< tt), add-zero)
+gate_at xs k h = gate_like _ xs k (λ j l. at_row 7 (gate_count xs) xs k j h l)
 
 pub register_at : (xs : List ℕ) (r : ℕ) → r < register_count xs → register_of (get_or (first_chunks 3 (register_count xs) xs) r []) ≡ register_in xs r
-register_at xs r h =
-    let at : (j : ℕ) → j < 3 → get_or (get_or (first_chunks 3 (register_count xs) xs) r []) j 0 ≡ get_or xs (3 * r + j) 0 = λ j l. at_row 3 (register_count xs) xs r j h l in
-    rw (at 0 (lit< tt), at 1 (lit< tt), at 2 (lit< tt), add-zero)
+register_at xs r h = register_like _ xs r (λ j l. at_row 3 (register_count xs) xs r j h l)

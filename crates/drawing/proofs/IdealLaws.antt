@@ -1,8 +1,8 @@
 -- Laws of `ideal`: its two equations, that it is the only settled assignment, and that it depends on the sources' bits alone.
-use Rattle.std.proofs.Common.{◌≡◌, ℕ, ◌+◌, ◌*◌, ◌<◌, Bool, List, length, get_or, sym, ◌∙◌, arith}
+use Rattle.std.proofs.Common.{◌≡◌, ℕ, ◌+◌, ◌<◌, Bool, List, length, sym, ◌∙◌, arith}
 use Rattle.circuit.specs.Gate.{output}
 use Rattle.circuit.specs.Circuit.{Circuit, gate, signals, Sound}
-use Rattle.circuit.specs.Lent.{gate_count, circuit_in}
+use Rattle.circuit.specs.Lent.{gate_count, gate_in, circuit_in}
 use Rattle.circuit.proofs.Signals.{all_in, all_at, each_signal}
 use Rattle.circuit.proofs.LentLaws.{gates_in_length, gates_in_at}
 use Rattle.drawing.specs.Drawing.{ideal, Settled, IdealIsSettled}
@@ -30,5 +30,5 @@ ideal_agrees c sound a b same = only_ideal c sound b (ideal c a) (record { sourc
 
 -- the equation of a gate, over the numbers that are lent
 pub ideal_lent : (n : ℕ) (gates : List ℕ) → Sound (circuit_in n gates) → (b : ℕ → Bool) (k : ℕ) → k < gate_count gates →
-    ideal (circuit_in n gates) b (n + k) ≡ output (get_or gates (7 * k + 2) 0) (ideal (circuit_in n gates) b (get_or gates (7 * k) 0)) (ideal (circuit_in n gates) b (get_or gates (7 * k + 1) 0))
+    ideal (circuit_in n gates) b (n + k) ≡ output (gate_in gates k).table (ideal (circuit_in n gates) b (gate_in gates k).one) (ideal (circuit_in n gates) b (gate_in gates k).two)
 ideal_lent n gates sound b k h = rw (gates_in_at gates k h) at (ideal_at (circuit_in n gates) sound b k (omega (arith, gates_in_length gates)))

@@ -1,26 +1,26 @@
 // What a circuit does when nothing takes time.
 #![tactic(auto)]
 
-ghost use Rattle.std.specs.Prelude.{◌≡◌, ℕ, ◌+◌, ◌*◌, ◌/◌, ◌%◌, ◌<◌, ◌≤◌, false, length, MatchResult, slice_index};
+ghost use Rattle.std.specs.Prelude.{◌≡◌, ◌+◌, ◌%◌, ◌<◌, ◌≤◌, false, length, MatchResult};
 ghost use Rattle.circuit.specs.Filled.{Filled};
 ghost use Rattle.circuit.specs.Gate.{output};
-ghost use Rattle.circuit.specs.Circuit.{signals, Sound};
-ghost use Rattle.circuit.specs.Lent.{gate_count, register_count, signal_count, circuit_in, drawn, takes};
-ghost use Rattle.drawing.specs.Drawing.{ideal, held, IdealIsSettled};
-ghost use Rattle.drawing.specs.Lent.{bit_at, Cycled, RoomRefused, RoomsRefused};
+ghost use Rattle.circuit.specs.Circuit.{Sound};
+ghost use Rattle.circuit.specs.Checked.{registers_of, signals_of};
+ghost use Rattle.circuit.specs.Lent.{gate_count, circuit_in, takes};
+ghost use Rattle.drawing.specs.Drawing.{ideal, IdealIsSettled};
+ghost use Rattle.drawing.specs.Lent.{bit_at, drawing_of, CyclesAnswer, RoomRefused};
 
-use circuit::{Circuit, Refusal, table};
+use circuit::{Circuit, Gate, Refusal, Register, table};
 
-// The output of the gate whose numbers stand first, from the signals before it.
-fn output_of(gates: &[u32], signals: &[bool]) -> bool
-    requires numbers { 7 ≤ length gates.now }
-    requires one { slice_index gates.now 0 < length signals.now }
-    requires two { slice_index gates.now 1 < length signals.now }
-    ensures { result ≡ output (slice_index gates.now 2) (bit_at signals.now (slice_index gates.now 0)) (bit_at signals.now (slice_index gates.now 1)) }
+// The output of a gate, from the signals before it.
+fn output_of(gate: Gate, signals: &[bool]) -> bool
+    requires one { gate.one < length signals.now }
+    requires two { gate.two < length signals.now }
+    ensures { result ≡ output gate.table (bit_at signals.now gate.one) (bit_at signals.now gate.two) }
 {
-    let one = signals[gates[0] as usize];
-    let two = signals[gates[1] as usize];
-    table::output(gates[2], one, two)
+    let one = signals[gate.one as usize];
+    let two = signals[gate.two as usize];
+    table::output(gate.table, one, two)
 }
 
 // What every signal is, from the bits of `n` sources with which `signals` begins: each turn takes the first gate, and
@@ -33,8 +33,8 @@ fn settle_gates(gates: &[u32], n: usize, signals: &mut [bool])
 {
     let mut rest = gates;
     let mut at = n;
-    while !rest.is_empty() {
-        signals[at] = output_of(rest, signals);
+    while let Some(gate) = rest.first_chunk() {
+        signals[at] = output_of(Gate::from(*gate), signals);
         at += 1;
         rest = &rest[7..];
     }
@@ -44,15 +44,14 @@ fn settle_gates(gates: &[u32], n: usize, signals: &mut [bool])
 // places than there are signals is refused.
 pub fn settle(circuit: Circuit<'_>, signals: &mut [bool]) -> Result<(), Refusal>
     ensures { MatchResult result
-        (λ _. Filled false (signal_count circuit.entry.gates.now circuit.entry.registers.now) (ideal (drawn circuit.entry.gates.now circuit.entry.registers.now) (bit_at signals.old)) signals.old signals.new)
-        (λ e. RoomRefused (signal_count circuit.entry.gates.now circuit.entry.registers.now) signals.old signals.new e) }
+        (λ _. Filled false (signals_of circuit.entry) (ideal (drawing_of circuit.entry) (bit_at signals.old)) signals.old signals.new)
+        (λ e. RoomRefused (signals_of circuit.entry) signals.old signals.new e) }
 {
-    let n = circuit.registers.len() / 3;
-    let all = n + circuit.gates.len() / 7;
+    let all = circuit.signal_count();
     if signals.len() < all {
         return Err(Refusal::NoRoom(all));
     }
-    settle_gates(circuit.gates, n, signals);
+    settle_gates(circuit.gates, circuit.register_count(), signals);
     Ok(())
 }
 
@@ -62,34 +61,31 @@ fn show(bits: &[bool], n: usize, signals: &mut [bool])
     requires signals { n ≤ length signals.old }
     ensures { Filled false n (bit_at bits.now) signals.old signals.new }
 {
-    for r in 0..n {
-        signals[r] = bits[r];
-    }
+    signals[..n].copy_from_slice(&bits[..n]);
 }
 
 // All registers at once take what their signals are.
-fn take(registers: &[u32], signals: &[bool], bits: &mut [bool])
-    requires whole { length registers.now % 3 ≡ 0 }
-    requires room { register_count registers.now ≤ length bits.old }
-    requires within { (r : ℕ) → r < register_count registers.now → takes registers.now r < length signals.now }
-    ensures { Filled false (register_count registers.now) (λ r. bit_at signals.now (takes registers.now r)) bits.old bits.new }
+fn take(circuit: Circuit<'_>, signals: &[bool], bits: &mut [bool])
+    requires room { registers_of circuit ≤ length bits.old }
+    requires within { signals_of circuit ≤ length signals.now }
+    ensures { Filled false (registers_of circuit.entry) (λ r. bit_at signals.now (takes circuit.entry.registers.now r)) bits.old bits.new }
 {
-    for r in 0..registers.len() / 3 {
-        bits[r] = signals[registers[3 * r] as usize];
+    for (r, register) in circuit.registers().iter().enumerate() {
+        bits[r] = signals[Register::from(*register).signal as usize];
     }
 }
 
 // One cycle where there is room for it.
 fn one_cycle(circuit: Circuit<'_>, bits: &mut [bool], signals: &mut [bool])
-    requires bits { register_count circuit.registers.now ≤ length bits.old }
-    requires signals { signal_count circuit.gates.now circuit.registers.now ≤ length signals.old }
-    ensures settled { Filled false (signal_count circuit.entry.gates.now circuit.entry.registers.now) (ideal (drawn circuit.entry.gates.now circuit.entry.registers.now) (bit_at bits.old)) signals.old signals.new }
-    ensures taken { Filled false (register_count circuit.entry.registers.now) (λ r. ideal (drawn circuit.entry.gates.now circuit.entry.registers.now) (bit_at bits.old) (takes circuit.entry.registers.now r)) bits.old bits.new }
+    requires bits { registers_of circuit ≤ length bits.old }
+    requires signals { signals_of circuit ≤ length signals.old }
+    ensures settled { Filled false (signals_of circuit.entry) (ideal (drawing_of circuit.entry) (bit_at bits.old)) signals.old signals.new }
+    ensures taken { Filled false (registers_of circuit.entry) (λ r. ideal (drawing_of circuit.entry) (bit_at bits.old) (takes circuit.entry.registers.now r)) bits.old bits.new }
 {
-    let n = circuit.registers.len() / 3;
+    let n = circuit.register_count();
     show(bits, n, signals);
     settle_gates(circuit.gates, n, signals);
-    take(circuit.registers, signals, bits);
+    take(circuit, signals, bits);
 }
 
 // `count` cycles from the bits that the registers hold: in each, all of them at once take what their signals are.
@@ -100,16 +96,13 @@ pub fn cycles(
     bits: &mut [bool],
     signals: &mut [bool],
 ) -> Result<(), Refusal>
-    ensures { MatchResult result
-        (λ _. Cycled circuit.entry.gates.now circuit.entry.registers.now count bits.old bits.new signals.old signals.new)
-        (λ e. RoomsRefused (register_count circuit.entry.registers.now) (signal_count circuit.entry.gates.now circuit.entry.registers.now) bits.old signals.old e
-        × (bits.new ≡ bits.old) × (signals.new ≡ signals.old)) }
+    ensures { CyclesAnswer circuit.entry count bits.old bits.new signals.old signals.new result }
 {
-    let n = circuit.registers.len() / 3;
+    let n = circuit.register_count();
     if bits.len() < n {
         return Err(Refusal::NoRoom(n));
     }
-    let needed = n + circuit.gates.len() / 7;
+    let needed = circuit.signal_count();
     if signals.len() < needed {
         return Err(Refusal::NoRoom(needed));
     }
@@ -121,10 +114,7 @@ pub fn cycles(
 
 // One cycle.
 pub fn cycle(circuit: Circuit<'_>, bits: &mut [bool], signals: &mut [bool]) -> Result<(), Refusal>
-    ensures { MatchResult result
-        (λ _. Cycled circuit.entry.gates.now circuit.entry.registers.now 1 bits.old bits.new signals.old signals.new)
-        (λ e. RoomsRefused (register_count circuit.entry.registers.now) (signal_count circuit.entry.gates.now circuit.entry.registers.now) bits.old signals.old e
-        × (bits.new ≡ bits.old) × (signals.new ≡ signals.old)) }
+    ensures { CyclesAnswer circuit.entry 1 bits.old bits.new signals.old signals.new result }
 {
     cycles(circuit, 1, bits, signals)
 }
