@@ -2,6 +2,7 @@
 use Rattle.std.proofs.Common.{◌≡◌, ℕ, ◌+◌, ◌-◌, ◌*◌, ◌^◌, ◌<◌, ◌≤◌, max, true, false, List, length, get_or, set, sym, refl, ◌∙◌, arith}
 use Rattle.circuit.specs.Circuit.{Sound}
 use Rattle.circuit.specs.Filled.{Filled}
+use Rattle.circuit.specs.declared.gate.Gate.{Gate}
 use Rattle.circuit.specs.Lent.{gate_count, register_count, signal_count, gate_in, circuit_in, drawn}
 use Rattle.circuit.specs.Whole.{Small}
 use Rattle.circuit.proofs.Joined.{small_gates, small_registers, small_times}
@@ -10,14 +11,14 @@ use Rattle.circuit.proofs.LentLaws.{gates_in_length, gates_in_at, inputs_before}
 use Rattle.circuit.proofs.Signals.{each_signal}
 use Rattle.arrival.specs.declared.edge.Edge.{Edge}
 use Rattle.arrival.specs.declared.edge.Edge.TheVariants.{Late, Early}
-use Rattle.arrival.specs.Arrival.{delay, choose, arrival}
+use Rattle.arrival.specs.Arrival.{delay, choose, gate_time, arrival}
 use Rattle.arrival.specs.Lent.{source, time_of, OverSources, OverRegisters}
 use Rattle.arrival.proofs.ArrivalLaws.{arrival_in, arrival_at, agrees}
 
 -- the equation of a gate's time, over the numbers that are lent
 pub arrival_lent : (e : Edge) (n : ℕ) (gates : List ℕ) → Sound (circuit_in n gates) → (s : ℕ → ℕ) (k : ℕ) → k < gate_count gates →
     arrival e (circuit_in n gates) s (n + k)
-    ≡ choose e (arrival e (circuit_in n gates) s (get_or gates (7 * k) 0) + delay e false (gate_in gates k)) (arrival e (circuit_in n gates) s (get_or gates (7 * k + 1) 0) + delay e true (gate_in gates k))
+    ≡ gate_time e 0 (gate_in gates k) (arrival e (circuit_in n gates) s (gate_in gates k).one) (arrival e (circuit_in n gates) s (gate_in gates k).two)
 arrival_lent e n gates sound s k h = rw (gates_in_at gates k h) at (arrival_at e (circuit_in n gates) sound s k (omega (arith, gates_in_length gates)))
 
 -- a gate adds at most the largest number to the later of its inputs' times
@@ -46,20 +47,20 @@ module _ (e : Edge) (n : ℕ) (gates : List ℕ) (few : gate_count gates ≤ 163
   pub start : Filled 0 (n + 0) times before before
   start = record { filled = λ k h. sym (arrival_in e (circuit_in n gates) sound (λ i. get_or before i 0) k (omega arith)); rest = λ k h. refl }
 
-  module _ (k : ℕ) (h : k < gate_count gates) (now : List ℕ) (sofar : Filled 0 (n + k) times before now) where
-    pub ready : (get_or now (get_or gates (7 * k) 0) 0 < 2 ^ 64 - 2 ^ 32) × (get_or now (get_or gates (7 * k + 1) 0) 0 < 2 ^ 64 - 2 ^ 32)
+  module _ (k : ℕ) (h : k < gate_count gates) (now : List ℕ) (sofar : Filled 0 (n + k) times before now) (gate : Gate) (is_gate : gate ≡ gate_in gates k) where
+    pub ready : (get_or now gate.one 0 < 2 ^ 64 - 2 ^ 32) × (get_or now gate.two 0 < 2 ^ 64 - 2 ^ 32)
     ready =
-        let b = inputs_before n gates sound k h in (
+        let b = inputs_before n gates sound k h in
+        rw is_gate (
           omega (arith, sofar.filled _ b.0, bounded e n gates small sound (λ i. get_or before i 0) sources (get_or gates (7 * k) 0) (omega arith)),
           omega (arith, sofar.filled _ b.1, bounded e n gates small sound (λ i. get_or before i 0) sources (get_or gates (7 * k + 1) 0) (omega arith)),
         )
 
-    pub turn : (v : ℕ) → n + k < length now → v ≡ choose e (get_or now (get_or gates (7 * k) 0) 0 + delay e false (gate_in gates k)) (get_or now (get_or gates (7 * k + 1) 0) 0 + delay e true (gate_in gates k)) →
-        Filled 0 (n + (k + 1)) times before (set now (n + k) v)
+    pub turn : (v : ℕ) → n + k < length now → v ≡ gate_time e 0 gate (get_or now gate.one 0) (get_or now gate.two 0) → Filled 0 (n + (k + 1)) times before (set now (n + k) v)
     turn v room is =
         let b = inputs_before n gates sound k h in
         let a : n + k + 1 ≡ n + (k + 1) = omega arith in
-        rw a at (filled_more sofar v room (is ∙ rw (sofar.filled _ b.0, sofar.filled _ b.1) (sym (arrival_lent e n gates sound (λ i. get_or before i 0) k h))))
+        rw a at (filled_more sofar v room (is ∙ rw (is_gate, sofar.filled _ b.0, sofar.filled _ b.1) (sym (arrival_lent e n gates sound (λ i. get_or before i 0) k h))))
 
 -- over the registers' own times: first those, then the gates'
 pub over_registers : (e : Edge) (gates registers times before mid after : List ℕ) → Sound (drawn gates registers) →

@@ -1,10 +1,11 @@
 // The times of single signals.
 ghost use Rattle.std.specs.Prelude.{◌≡◌, ℕ, ◌<◌, ◌≤◌, length, MatchResult, slice_index};
-ghost use Rattle.circuit.specs.Lent.{signal_count};
+ghost use Rattle.circuit.specs.Checked.{of, signals_of};
 ghost use Rattle.circuit.specs.declared.refusal.Refusal.TheVariants.{NoSignal};
 ghost use Rattle.arrival.specs.Lent.{time_of};
 ghost use Rattle.arrival.specs.declared.edge.Edge.TheVariants.{Late, Early};
 
+use crate::edge::Edge;
 use crate::timed::Arrivals;
 use circuit::{Circuit, Refusal};
 
@@ -18,9 +19,9 @@ pub struct Times {
 impl<'a, 'b> Arrivals<'a, 'b> {
     // The circuit with times that were filled in.
     pub fn new(circuit: Circuit<'a>, latest: &'b [u64], earliest: &'b [u64]) -> Self
-        requires room { (signal_count circuit.gates.now circuit.registers.now ≤ length latest.now) × (signal_count circuit.gates.now circuit.registers.now ≤ length earliest.now) }
-        requires late { (k : ℕ) → k < signal_count circuit.gates.now circuit.registers.now → slice_index latest.now k ≡ time_of Late circuit.gates.now circuit.registers.now circuit.times.now k }
-        requires early { (k : ℕ) → k < signal_count circuit.gates.now circuit.registers.now → slice_index earliest.now k ≡ time_of Early circuit.gates.now circuit.registers.now circuit.times.now k }
+        requires room { (signals_of circuit ≤ length latest.now) × (signals_of circuit ≤ length earliest.now) }
+        requires late { (k : ℕ) → k < signals_of circuit → slice_index latest.now k ≡ of circuit (time_of Late) k }
+        requires early { (k : ℕ) → k < signals_of circuit → slice_index earliest.now k ≡ of circuit (time_of Early) k }
         ensures circuit { (result.circuit.gates.now ≡ circuit.entry.gates.now) × (result.circuit.registers.now ≡ circuit.entry.registers.now) × (result.circuit.times.now ≡ circuit.entry.times.now) }
         ensures times { (result.latest.now ≡ latest.now) × (result.earliest.now ≡ earliest.now) }
     {
@@ -31,15 +32,26 @@ impl<'a, 'b> Arrivals<'a, 'b> {
         }
     }
 
+    // The times of all signals on one edge.
+    pub fn on(self, edge: Edge) -> &'b [u64]
+        ensures room { signals_of self.entry.circuit ≤ length result.now }
+        ensures each { (k : ℕ) → k < signals_of self.entry.circuit → slice_index result.now k ≡ of self.entry.circuit (time_of edge) k }
+    {
+        match edge {
+            Edge::Late => self.latest,
+            Edge::Early => self.earliest,
+        }
+    }
+
     // The times of one signal, or a refusal where it is past the circuit.
     pub fn times(self, signal: usize) -> Result<Times, Refusal>
         ensures { MatchResult result
-            (λ x. (signal < signal_count self.entry.circuit.gates.now self.entry.circuit.registers.now)
-            × (x.latest ≡ time_of Late self.entry.circuit.gates.now self.entry.circuit.registers.now self.entry.circuit.times.now signal)
-            × (x.earliest ≡ time_of Early self.entry.circuit.gates.now self.entry.circuit.registers.now self.entry.circuit.times.now signal))
-            (λ e. (e ≡ NoSignal signal) × (signal_count self.entry.circuit.gates.now self.entry.circuit.registers.now ≤ signal)) }
+            (λ x. (signal < signals_of self.entry.circuit)
+            × (x.latest ≡ of self.entry.circuit (time_of Late) signal)
+            × (x.earliest ≡ of self.entry.circuit (time_of Early) signal))
+            (λ e. (e ≡ NoSignal signal) × (signals_of self.entry.circuit ≤ signal)) }
     {
-        if signal >= self.circuit.registers.len() / 3 + self.circuit.gates.len() / 7 {
+        if signal >= self.circuit.signal_count() {
             return Err(Refusal::NoSignal(signal));
         }
         Ok(Times {

@@ -1,6 +1,7 @@
 pub mod Chunks
 pub mod Filling
 pub mod Joined
+pub mod Known
 pub mod LentLaws
 pub mod Order
 pub mod Signals

@@ -1,23 +1,32 @@
--- No time with a delay overflows.
-use Rattle.std.proofs.Common.{◌≡◌, ℕ, ◌+◌, ◌*◌, ◌^◌, ◌<◌, List, get_or, arith}
-use Rattle.circuit.specs.Lent.{gate_count, register_count, signal_count}
-use Rattle.circuit.specs.Whole.{FewGates, Small, Placed, Ranged}
-use Rattle.circuit.proofs.Joined.{small_gates}
-use Rattle.circuit.proofs.LentLaws.{sound_in}
+-- No time of a gate's input with its delay overflows.
+use Rattle.std.proofs.Common.{◌≡◌, ℕ, ◌+◌, ◌*◌, ◌^◌, ◌<◌, ◌≤◌, Bool, true, false, List, get_or, ap, arith}
+use Rattle.circuit.specs.Checked.{of, gates_of, signals_of}
+use Rattle.circuit.specs.Lent.{gate_in}
+use Rattle.circuit.specs.declared.circuit.Circuit as checked
+use Rattle.circuit.specs.declared.gate.Gate.{Gate}
+use Rattle.circuit.proofs.Known.{sound_of, gates_small}
 use Rattle.arrival.specs.declared.edge.Edge.{Edge}
+use Rattle.arrival.specs.declared.edge.Edge.TheVariants.{Late, Early}
+use Rattle.arrival.specs.Arrival.{delay}
 use Rattle.arrival.specs.Lent.{time_of}
 use Rattle.arrival.proofs.Turns.{time_small}
+use Rattle.path.specs.Path.{input}
 
-module _ (e : Edge) (g r t ts : List ℕ) (few : FewGates g) (small : (p : ℕ) → Small g r t p)
-    (placed : (k : ℕ) → k < gate_count g → Placed (register_count r) g k) (ranged : (k : ℕ) → k < gate_count g → Ranged g k)
-    (known : (k : ℕ) → k < signal_count g r → get_or ts k 0 ≡ time_of e g r t k) (k : ℕ) (h : k < gate_count g) where
-  sum_fits : (j i : ℕ) → j < register_count r + k → get_or ts j 0 + get_or g i 0 < 2 ^ 64
-  sum_fits j i before =
-      let l : j < signal_count g r = omega arith in
-      omega (arith, known j l, time_small e g r t few small (sound_in _ _ placed ranged) j l, small_gates g r t small i)
+delay_small : (e : Edge) (c : checked.Circuit) (k : ℕ) (second : Bool) → delay e second (gate_in c.gates.now k) ≤ 1000000
+delay_small Late c k false = gates_small c (7 * k + 4)
+delay_small Late c k true = gates_small c (7 * k + 6)
+delay_small Early c k false = gates_small c (7 * k + 3)
+delay_small Early c k true = gates_small c (7 * k + 5)
 
-  pub one_fits : (i : ℕ) → get_or ts (get_or g (7 * k) 0) 0 + get_or g i 0 < 2 ^ 64
-  one_fits i = sum_fits (get_or g (7 * k) 0) i (placed k h).0
+module _ (e : Edge) (c : checked.Circuit) (k : ℕ) (h : k < gates_of c) (gate : Gate) (is : gate ≡ gate_in c.gates.now k)
+    (times : List ℕ) (each : (j : ℕ) → j < signals_of c → get_or times j 0 ≡ of c (time_of e) j) where
+  before : (second : Bool) → input second (gate_in c.gates.now k) < signals_of c
+  before false = omega (arith, (c.placed k h).0)
+  before true = omega (arith, (c.placed k h).1)
 
-  pub two_fits : (i : ℕ) → get_or ts (get_or g (7 * k + 1) 0) 0 + get_or g i 0 < 2 ^ 64
-  two_fits i = sum_fits (get_or g (7 * k + 1) 0) i (placed k h).1
+  pub sum_fits : (second : Bool) (d : ℕ) → d ≡ delay e second gate → get_or times (input second gate) 0 + d < 2 ^ 64
+  sum_fits second d d_is =
+      let j : ℕ = input second (gate_in c.gates.now k) in
+      let small = time_small e c.gates.now c.registers.now c.times.now c.few c.small (sound_of c) j (before second) in
+      let d_small : d ≤ 1000000 = omega (arith, ap (delay e second) is, delay_small e c k second) in
+      rw is (omega (arith, each j (before second)))

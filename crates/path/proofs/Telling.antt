@@ -126,14 +126,14 @@ module _ (e : Edge) (g r t : List ℕ) (sound : Sound (drawn g r)) where
   either_way k true from is = rw is
   either_way k false from is = rw is
 
-  pub told_back : (at : ℕ) → register_count r ≤ at → at < signal_count g r → (b : Bool) (from : ℕ) →
-      b ≡ by_second e (time_of e g r t (gate_in g (at - register_count r)).one + delay e false (gate_in g (at - register_count r))) (time_of e g r t (gate_in g (at - register_count r)).two + delay e true (gate_in g (at - register_count r))) →
-      from ≡ input b (gate_in g (at - register_count r)) → told_lent at ≡ beyond (at - register_count r) b (told_lent from)
-  told_back at past inside b from b_is from_is =
+  pub told_back : (n at : ℕ) → n ≡ register_count r → n ≤ at → at < signal_count g r → (b : Bool) (from : ℕ) →
+      b ≡ by_second e (time_of e g r t (gate_in g (at - n)).one + delay e false (gate_in g (at - n))) (time_of e g r t (gate_in g (at - n)).two + delay e true (gate_in g (at - n))) →
+      from ≡ input b (gate_in g (at - n)) → told_lent at ≡ beyond (at - register_count r) b (told_lent from)
+  told_back n at is past inside b from b_is from_is =
       let k : at - register_count r < gate_count g = omega arith in
       let back : register_count r + (at - register_count r) ≡ at = omega arith in
       let law = rw (gates_in_at g (at - register_count r) k) at (told_at e (drawn g r) sound (source e r t) (at - register_count r) (omega (arith, gates_in_length g))) in
-      ap told_lent (sym back) ∙ law ∙ rw (← b_is) (either_way (at - register_count r) b from from_is)
+      ap told_lent (sym back) ∙ law ∙ rw (← rw is at b_is) (either_way (at - register_count r) b from (rw is at from_is))
 
   pub told_source_lent : (i : ℕ) → i < register_count r → told_lent i ≡ (i, [])
   told_source_lent = told_in e (drawn g r) sound (source e r t)

@@ -4,6 +4,7 @@ use Rattle.circuit.specs.declared.gate.Gate.{Gate}
 use Rattle.circuit.specs.Circuit.{Circuit, gate, signals, Sound, along}
 use Rattle.circuit.specs.Filled.{Filled}
 use Rattle.circuit.specs.Lent.{register_count, signal_count, drawn}
+use Rattle.circuit.specs.declared.circuit.Circuit as checked
 use Rattle.circuit.specs.declared.refusal.Refusal.{Refusal}
 use Rattle.circuit.specs.declared.refusal.Refusal.TheVariants.{NoRoom, NoSignal}
 use Rattle.arrival.specs.declared.edge.Edge.{Edge}
@@ -50,6 +51,10 @@ step e c s n g p q =
 -- the source where the told path of each signal begins, and its steps
 unfoldable pub told : Edge → Circuit → (ℕ → ℕ) → ℕ → ℕ × Steps
 told e c s = along (step e c s) c.inputs c.gates (λ i. (i, []))
+
+-- the same of a circuit that was looked at, over its registers' times
+abbrev pub told_to : Edge → checked.Circuit → ℕ → ℕ × Steps
+told_to e c = told e (drawn c.gates.now c.registers.now) (source e c.registers.now c.times.now)
 
 -- p is the first path from a source to signal k by which its time is reached, and begins at i
 pub record Told (e : Edge) (c : Circuit) (s : ℕ → ℕ) (k i : ℕ) (p : Steps) : Type 0 where

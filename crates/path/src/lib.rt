@@ -1,14 +1,15 @@
 // The path by which a signal's latest or earliest time is reached.
 #![tactic(auto)]
 
-ghost use Rattle.std.specs.Prelude.{◌≡◌, ℕ, ◌+◌, ◌-◌, ◌*◌, ◌<◌, ◌≤◌, true, false, length, if◌then◌else◌, MatchResult, slice_set};
-ghost use Rattle.circuit.specs.Lent.{gate_count, register_count, signal_count, gate_in, drawn};
+ghost use Rattle.std.specs.Prelude.{◌≡◌, ◌+◌, ◌-◌, ◌*◌, ◌<◌, ◌≤◌, true, false, length, if◌then◌else◌, MatchResult, slice_set};
+ghost use Rattle.circuit.specs.Checked.{of, gates_of, registers_of, signals_of};
+ghost use Rattle.circuit.specs.Lent.{gate_in};
 ghost use Rattle.arrival.specs.Arrival.{delay};
-ghost use Rattle.arrival.specs.Lent.{source, time_of};
-ghost use Rattle.path.specs.Path.{input, by_second, told, written, BeginsWith, PathTold, PathRefused, NoneWorse, ToldIsFirst};
+ghost use Rattle.arrival.specs.Lent.{time_of};
+ghost use Rattle.path.specs.Path.{input, by_second, told_to, written, BeginsWith, PathTold, PathRefused, NoneWorse, ToldIsFirst};
 
 use arrival::{Arrivals, Edge};
-use circuit::Refusal;
+use circuit::{Gate, Refusal};
 
 // The input by which a gate's time is reached, the first if it is by both, and the signal there.
 #[derive(Clone, Copy)]
@@ -19,33 +20,36 @@ struct Step {
 
 // The step back from gate `k`.
 fn back(a: Arrivals<'_, '_>, edge: Edge, k: usize) -> Step
-    requires { k < gate_count a.circuit.gates.now }
+    requires { k < gates_of a.circuit }
     ensures second { result.second ≡ by_second edge
-        (time_of edge a.entry.circuit.gates.now a.entry.circuit.registers.now a.entry.circuit.times.now (gate_in a.entry.circuit.gates.now k).one + delay edge false (gate_in a.entry.circuit.gates.now k))
-        (time_of edge a.entry.circuit.gates.now a.entry.circuit.registers.now a.entry.circuit.times.now (gate_in a.entry.circuit.gates.now k).two + delay edge true (gate_in a.entry.circuit.gates.now k)) }
+        (of a.entry.circuit (time_of edge) (gate_in a.entry.circuit.gates.now k).one + delay edge false (gate_in a.entry.circuit.gates.now k))
+        (of a.entry.circuit (time_of edge) (gate_in a.entry.circuit.gates.now k).two + delay edge true (gate_in a.entry.circuit.gates.now k)) }
     ensures from { result.from ≡ input result.second (gate_in a.entry.circuit.gates.now k) }
-    ensures before { result.from < register_count a.entry.circuit.registers.now + k }
+    ensures before { result.from < registers_of a.entry.circuit + k }
 {
-    let gates = a.circuit.gates;
-    let g = 7 * k;
-    let one = gates[g] as usize;
-    let two = gates[g + 1] as usize;
+    let gate = Gate::from(a.circuit.gates()[k]);
+    let (first, second) = edge.delays(gate);
+    let times = a.on(edge);
+    let one = times[gate.one as usize] + u64::from(first);
+    let two = times[gate.two as usize] + u64::from(second);
     let second = match edge {
-        Edge::Late => a.latest[one] + (gates[g + 4] as u64) < a.latest[two] + gates[g + 6] as u64,
-        Edge::Early => a.earliest[two] + (gates[g + 5] as u64)
-            < a.earliest[one] + gates[g + 3] as u64,
+        Edge::Late => one < two,
+        Edge::Early => two < one,
     };
-    let from = if second { two } else { one };
-    Step { second, from }
+    let from = if second { gate.two } else { gate.one };
+    Step {
+        second,
+        from: from as usize,
+    }
 }
 
 // How many gates are on the path to signal `to`.
 fn gates_on(a: Arrivals<'_, '_>, edge: Edge, to: usize) -> usize
-    requires { to < signal_count a.circuit.gates.now a.circuit.registers.now }
-    ensures steps { result ≡ length (told edge (drawn a.entry.circuit.gates.now a.entry.circuit.registers.now) (source edge a.entry.circuit.registers.now a.entry.circuit.times.now) to).1 }
+    requires { to < signals_of a.circuit }
+    ensures steps { result ≡ length (told_to edge a.entry.circuit to).1 }
     ensures few { result ≤ to }
 {
-    let n = a.circuit.registers.len() / 3;
+    let n = a.circuit.register_count();
     let mut at = to;
     let mut count = 0;
     while at >= n {
@@ -66,12 +70,12 @@ fn put_step(out: &mut [u32], i: usize, gate: u32, second: bool)
 
 // Writes the path to signal `to`, which goes through `count` gates, from its end to its beginning.
 fn put(a: Arrivals<'_, '_>, edge: Edge, to: usize, count: usize, out: &mut [u32])
-    requires signal { to < signal_count a.circuit.gates.now a.circuit.registers.now }
-    requires steps { count ≡ length (told edge (drawn a.circuit.gates.now a.circuit.registers.now) (source edge a.circuit.registers.now a.circuit.times.now) to).1 }
+    requires signal { to < signals_of a.circuit }
+    requires steps { count ≡ length (told_to edge a.circuit to).1 }
     requires room { 1 + 2 * count ≤ length out.old }
-    ensures { BeginsWith (written (register_count a.entry.circuit.registers.now) (told edge (drawn a.entry.circuit.gates.now a.entry.circuit.registers.now) (source edge a.entry.circuit.registers.now a.entry.circuit.times.now) to)) out.old out.new }
+    ensures { BeginsWith (written (registers_of a.entry.circuit) (told_to edge a.entry.circuit to)) out.old out.new }
 {
-    let n = a.circuit.registers.len() / 3;
+    let n = a.circuit.register_count();
     let mut at = to;
     let mut i = 1 + 2 * count;
     while at >= n {
@@ -92,11 +96,10 @@ pub fn path(
     out: &mut [u32],
 ) -> Result<usize, Refusal>
     ensures { MatchResult result
-        (λ len. (signal < signal_count a.entry.circuit.gates.now a.entry.circuit.registers.now)
-        × PathTold edge a.entry.circuit.gates.now a.entry.circuit.registers.now a.entry.circuit.times.now signal len out.old out.new)
-        (λ e. PathRefused edge a.entry.circuit.gates.now a.entry.circuit.registers.now a.entry.circuit.times.now signal out.old e × (out.new ≡ out.old)) }
+        (λ len. (signal < signals_of a.entry.circuit) × of a.entry.circuit (PathTold edge) signal len out.old out.new)
+        (λ e. of a.entry.circuit (PathRefused edge) signal out.old e × (out.new ≡ out.old)) }
 {
-    if signal >= a.circuit.registers.len() / 3 + a.circuit.gates.len() / 7 {
+    if signal >= a.circuit.signal_count() {
         return Err(Refusal::NoSignal(signal));
     }
     let count = gates_on(a, edge, signal);

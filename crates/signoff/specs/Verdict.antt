@@ -4,6 +4,7 @@ use Rattle.circuit.specs.Lent.{register_count, takes, early, late, period, setup
 use Rattle.circuit.specs.Refused.{AllOrFirst, FirstRefusal}
 use Rattle.circuit.specs.Whole.{Whole}
 use Rattle.circuit.specs.declared.refusal.Refusal.{Refusal}
+use Rattle.arrival.specs.declared.edge.Edge.{Edge}
 use Rattle.arrival.specs.declared.edge.Edge.TheVariants.{Late, Early}
 use Rattle.path.specs.Path.{PathTold, PathRefused}
 use Rattle.promise.specs.Machine.{Machine, machine_in, last_change, first_change, SetupKept, HoldKept, Passed}
@@ -29,6 +30,15 @@ module _ (gates registers times : List ℕ) where
 
   abbrev pub EarlySums : (r arrival limit : ℕ) → Type 0
   EarlySums r arrival limit = (arrival ≡ first_change machine (takes registers r)) × (limit ≡ late registers r + hold times)
+
+  -- the sums of either kind, and that they are right at a register
+  abbrev pub SumsOf : Edge → (r arrival limit : ℕ) → Type 0
+  SumsOf Late = LateSums
+  SumsOf Early = EarlySums
+
+  abbrev pub SumsKept : Edge → ℕ → Type 0
+  SumsKept Late = SetupKept machine
+  SumsKept Early = HoldKept machine
 
   module _ (before after : List ℕ) where
     -- what a verdict on a whole circuit says, with the lent room before and after: a passed one leaves the room as it was; of one that is not, the room

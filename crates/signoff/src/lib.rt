@@ -1,112 +1,114 @@
 // Passing a clocked circuit, or naming what stands in its way.
 #![tactic(auto)]
 
-ghost use Rattle.std.specs.Prelude.{◌≡◌, ℕ, ◌+◌, ◌<◌, ◌≤◌, length};
-ghost use Rattle.circuit.specs.Lent.{register_count};
+ghost use Rattle.std.specs.Prelude.{◌≡◌, ◌<◌, ◌≤◌, ◌↔◌, IsTrue, MatchResult};
+ghost use Rattle.circuit.specs.Checked.{of, registers_of};
+ghost use Rattle.circuit.specs.Lent.{takes};
 ghost use Rattle.circuit.specs.Refused.{AllOrFirst};
-ghost use Rattle.promise.specs.Machine.{machine_in, SetupKept, HoldKept};
-ghost use Rattle.signoff.specs.Verdict.{LateSums, EarlySums, Judged, Answers};
+ghost use Rattle.path.specs.Path.{PathTold, PathRefused};
+ghost use Rattle.signoff.specs.Verdict.{SumsOf, SumsKept, Judged, Answers};
 
 use arrival::{Arrivals, Edge, fill_from_registers};
-use circuit::{Circuit, Refusal, look};
+use circuit::{Circuit, MOST_GATES, MOST_REGISTERS, Numbers, Refusal, Register};
 
 mod verdict;
 
 pub use verdict::{Miss, Verdict};
 
 // As many signals as a circuit can have.
-const MOST_SIGNALS: usize = 17_408;
+const MOST_SIGNALS: usize = MOST_REGISTERS + MOST_GATES;
 
-// Two sums that are compared.
+// Two sums of a register that are compared, and the signal that it takes.
 #[derive(Clone, Copy)]
 struct Sums {
+    signal: usize,
     arrival: u64,
     limit: u64,
 }
 
-// The sums of the first kind: latest time and setup, period and early time.
-fn late_sums(a: Arrivals<'_, '_>, r: usize) -> Sums
-    requires { r < register_count a.circuit.registers.now }
-    ensures { LateSums a.entry.circuit.gates.now a.entry.circuit.registers.now a.entry.circuit.times.now r result.arrival result.limit }
+// The sums of the first kind are latest time and setup, period and early time; of the second earliest time, late time and
+// hold.
+fn sums_at(a: Arrivals<'_, '_>, edge: Edge, r: usize) -> Sums
+    requires { r < registers_of a.circuit }
+    ensures signal { result.signal ≡ takes a.entry.circuit.registers.now r }
+    ensures sums { of a.entry.circuit SumsOf edge r result.arrival result.limit }
 {
-    let signal = a.circuit.registers[3 * r] as usize;
-    let arrival = a.latest[signal] + a.circuit.times[3] as u64;
-    let limit = a.circuit.times[0] as u64 + a.circuit.registers[3 * r + 1] as u64;
-    Sums { arrival, limit }
+    let register = Register::from(a.circuit.registers()[r]);
+    let signal = register.signal as usize;
+    let (arrival, limit) = match edge {
+        Edge::Late => (
+            a.latest[signal] + u64::from(a.circuit.setup()),
+            u64::from(a.circuit.period()) + u64::from(register.early),
+        ),
+        Edge::Early => (
+            a.earliest[signal],
+            u64::from(register.late) + u64::from(a.circuit.hold()),
+        ),
+    };
+    Sums {
+        signal,
+        arrival,
+        limit,
+    }
 }
 
-// The sums of the second kind: earliest time, late time and hold.
-fn early_sums(a: Arrivals<'_, '_>, r: usize) -> Sums
-    requires { r < register_count a.circuit.registers.now }
-    ensures { EarlySums a.entry.circuit.gates.now a.entry.circuit.registers.now a.entry.circuit.times.now r result.arrival result.limit }
+// Whether the sums of a register are right.
+fn kept(a: Arrivals<'_, '_>, edge: Edge, r: usize) -> bool
+    requires { r < registers_of a.circuit }
+    ensures { IsTrue result ↔ of a.entry.circuit SumsKept edge r }
 {
-    let signal = a.circuit.registers[3 * r] as usize;
-    let arrival = a.earliest[signal];
-    let limit = a.circuit.registers[3 * r + 2] as u64 + a.circuit.times[4] as u64;
-    Sums { arrival, limit }
+    let sums = sums_at(a, edge, r);
+    match edge {
+        Edge::Late => sums.arrival <= sums.limit,
+        Edge::Early => sums.limit < sums.arrival,
+    }
 }
 
-// The first register whose input comes too late.
-fn first_late(a: Arrivals<'_, '_>) -> Option<usize>
-    ensures { AllOrFirst (SetupKept (machine_in a.entry.circuit.gates.now a.entry.circuit.registers.now a.entry.circuit.times.now)) (register_count a.entry.circuit.registers.now) result }
+// The first register whose sums are not right: whose input comes too late, or changes too early.
+fn first_missed(a: Arrivals<'_, '_>, edge: Edge) -> Option<usize>
+    ensures { AllOrFirst (of a.entry.circuit SumsKept edge) (registers_of a.entry.circuit) result }
 {
-    let n = a.circuit.registers.len() / 3;
+    let n = a.circuit.register_count();
     let mut r = 0;
     loop {
         if r == n {
             break None;
         }
-        let sums = late_sums(a, r);
-        if sums.arrival > sums.limit {
+        if !kept(a, edge, r) {
             break Some(r);
         }
         r += 1;
     }
 }
 
-// The first register whose input changes too early.
-fn first_early(a: Arrivals<'_, '_>) -> Option<usize>
-    ensures { AllOrFirst (HoldKept (machine_in a.entry.circuit.gates.now a.entry.circuit.registers.now a.entry.circuit.times.now)) (register_count a.entry.circuit.registers.now) result }
+// A register's sums, and its path, which goes into `room`.
+fn miss(a: Arrivals<'_, '_>, edge: Edge, register: usize, room: &mut [u32]) -> Result<Miss, Refusal>
+    requires { register < registers_of a.circuit }
+    ensures { MatchResult result
+        (λ x. (x.register ≡ register)
+        × of a.entry.circuit SumsOf edge register x.arrival x.limit
+        × of a.entry.circuit (PathTold edge) (takes a.entry.circuit.registers.now register) x.path room.old room.new)
+        (λ e. of a.entry.circuit (PathRefused edge) (takes a.entry.circuit.registers.now register) room.old e × (room.new ≡ room.old)) }
 {
-    let n = a.circuit.registers.len() / 3;
-    let mut q = 0;
-    loop {
-        if q == n {
-            break None;
-        }
-        let sums = early_sums(a, q);
-        if sums.arrival <= sums.limit {
-            break Some(q);
-        }
-        q += 1;
-    }
+    let sums = sums_at(a, edge, register);
+    let path = path::path(a, edge, sums.signal, room)?;
+    Ok(Miss {
+        register,
+        arrival: sums.arrival,
+        limit: sums.limit,
+        path,
+    })
 }
 
 // The verdict on a circuit whose arrival times are known; the path goes into `room`.
 fn judge(a: Arrivals<'_, '_>, room: &mut [u32]) -> Result<Verdict, Refusal>
-    ensures { Judged a.entry.circuit.gates.now a.entry.circuit.registers.now a.entry.circuit.times.now room.old room.new result }
+    ensures { of a.entry.circuit Judged room.old room.new result }
 {
-    if let Some(register) = first_late(a) {
-        let sums = late_sums(a, register);
-        let signal = a.circuit.registers[3 * register] as usize;
-        let path = path::path(a, Edge::Late, signal, room)?;
-        return Ok(Verdict::TooLate(Miss {
-            register,
-            arrival: sums.arrival,
-            limit: sums.limit,
-            path,
-        }));
+    if let Some(register) = first_missed(a, Edge::Late) {
+        return Ok(Verdict::TooLate(miss(a, Edge::Late, register, room)?));
     }
-    if let Some(register) = first_early(a) {
-        let sums = early_sums(a, register);
-        let signal = a.circuit.registers[3 * register] as usize;
-        let path = path::path(a, Edge::Early, signal, room)?;
-        return Ok(Verdict::TooEarly(Miss {
-            register,
-            arrival: sums.arrival,
-            limit: sums.limit,
-            path,
-        }));
+    if let Some(register) = first_missed(a, Edge::Early) {
+        return Ok(Verdict::TooEarly(miss(a, Edge::Early, register, room)?));
     }
     Ok(Verdict::Passed)
 }
@@ -121,8 +123,11 @@ pub fn pass<'a>(
 ) -> Result<Verdict, Refusal>
     ensures { Answers gates.now registers.now times.now room.old room.new result }
 {
-    look(gates, registers, times)?;
-    let circuit = Circuit::new(gates, registers, times);
+    let circuit = Circuit::try_from(Numbers {
+        gates,
+        registers,
+        times,
+    })?;
     let mut latest = [0; MOST_SIGNALS];
     let mut earliest = [0; MOST_SIGNALS];
     fill_from_registers(circuit, &mut latest, &mut earliest)?;

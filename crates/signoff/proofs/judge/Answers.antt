@@ -4,6 +4,9 @@ use Rattle.promise.specs.Machine.{machine_in, Passed}
 use Rattle.promise.proofs.Lent.{formed_in}
 use Rattle.signoff.proofs.judge.Goals as goal
 
+pub returns-in-Some : goal.returns-in-Some
+returns-in-Some c = let m = c.in_ok-miss.ensures in rw m.0 (c.in-Some.ensures, m.1, m.2)
+
 pub returns : goal.returns
 returns c =
     let m = c.args.a.circuit in
@@ -11,6 +14,6 @@ returns c =
     record {
       formed = formed_in m.gates.now m.registers.now m.times.now m.placed m.ranged m.tied m.ordered;
       setup_kept = c.in_default.ensures;
-      hold_kept = c.in_default-first_early.ensures;
+      hold_kept = c.in_default-first_missed.ensures;
     } in
     (passed, promise_kept _ passed, refl)

@@ -7,5 +7,5 @@ use Rattle.arrival.proofs.filling.fill_gates.Given as goal
 
 abbrev pub invariant-loop-k : goal.invariant-loop-k
 invariant-loop-k l =
-    Filled 0 (l.n + l.k) (arrival Late (circuit_in l.n l.gates) (λ i. get_or l.initial.latest i 0)) l.initial.latest l.latest
-    × Filled 0 (l.n + l.k) (arrival Early (circuit_in l.n l.gates) (λ i. get_or l.initial.earliest i 0)) l.initial.earliest l.earliest
+    Filled 0 (l.n + l.k) (arrival Late (circuit_in l.n l.circuit.gates.now) (λ i. get_or l.initial.latest i 0)) l.initial.latest l.latest
+    × Filled 0 (l.n + l.k) (arrival Early (circuit_in l.n l.circuit.gates.now) (λ i. get_or l.initial.earliest i 0)) l.initial.earliest l.earliest
