@@ -5,7 +5,7 @@ ghost use Rattle.std.specs.Prelude.{◌≡◌, OnOk};
 ghost use Rattle.circuit.specs.Whole.{Whole};
 
 use arrival::fill_from_registers;
-use circuit::{Circuit, Refusal, look};
+use circuit::{Circuit, Numbers, Refusal};
 
 fn fill<'a>(
     gates: &'a [u32],
@@ -17,8 +17,11 @@ fn fill<'a>(
 ) -> Result<(), Refusal>
     ensures { OnOk result (Whole gates.now registers.now times.now) }
 {
-    look(gates, registers, times)?;
-    let circuit = Circuit::new(gates, registers, times);
+    let circuit = Circuit::try_from(Numbers {
+        gates,
+        registers,
+        times,
+    })?;
     for _ in 0..turns {
         fill_from_registers(circuit, latest, earliest)?;
     }

@@ -1,6 +1,6 @@
 // Arrival times and paths of the example circuits.
 use arrival::{Arrivals, Edge, fill_from_registers};
-use circuit::{Circuit, Refusal, look};
+use circuit::{Circuit, Numbers, Refusal};
 use path::path;
 use std::process::Abort;
 use std::test::Fail;
@@ -19,6 +19,19 @@ pub(crate) const COUNTER: [u32; 14] = [0, 0, 1, 3, 8, 3, 8, 0, 1, 6, 4, 9, 2, 7]
 
 const AND_NOT: [u32; 14] = [0, 1, 8, 3, 5, 3, 5, 2, 2, 1, 3, 6, 3, 6];
 
+// The circuit of these numbers.
+pub(crate) fn checked<'a>(
+    gates: &'a [u32],
+    registers: &'a [u32],
+    times: &'a [u32],
+) -> Result<Circuit<'a>, Refusal> {
+    Circuit::try_from(Numbers {
+        gates,
+        registers,
+        times,
+    })
+}
+
 // A signal's latest and earliest time, and the paths that have them.
 fn same<'a>(
     rt: &impl Abort,
@@ -30,8 +43,7 @@ fn same<'a>(
     earliest: u64,
     early: &[u32],
 ) -> Result<(), Fail> {
-    look(gates, registers, &TIMES)?;
-    let c = Circuit::new(gates, registers, &TIMES);
+    let c = checked(gates, registers, &TIMES)?;
     let mut last = [0; 4];
     let mut first = [0; 4];
     fill_from_registers(c, &mut last, &mut first)?;
@@ -73,8 +85,7 @@ fn examples(rt: HostRuntime) -> Result<(), Fail> {
 // with nothing written, and so is a signal past the circuit.
 #[test]
 fn ties_and_room(rt: HostRuntime) -> Result<(), Fail> {
-    look(&AND_NOT, &TWO, &TIMES)?;
-    let c = Circuit::new(&AND_NOT, &TWO, &TIMES);
+    let c = checked(&AND_NOT, &TWO, &TIMES)?;
     let mut last = [0; 4];
     let mut first = [0; 4];
     assert_eq!(rt;
@@ -106,8 +117,7 @@ fn chain(rt: HostRuntime) -> Result<(), Fail> {
     }
     let registers = [16384, 1_000_000, 1_000_000];
     let times = [0, 1_000_000, 1_000_000, 0, 0];
-    look(&gates, &registers, &times)?;
-    let c = Circuit::new(&gates, &registers, &times);
+    let c = checked(&gates, &registers, &times)?;
     let mut last = [0; 16385];
     let mut first = [0; 16385];
     fill_from_registers(c, &mut last, &mut first)?;

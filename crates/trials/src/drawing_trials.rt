@@ -1,5 +1,6 @@
 // The drawing of a counter.
-use circuit::{Circuit, Refusal, look, table};
+use crate::arrival_trials::checked;
+use circuit::{Refusal, table};
 use drawing::{cycle, cycles, settle};
 use std::test::Fail;
 
@@ -12,8 +13,7 @@ const TIMES: [u32; 5] = [18, 2, 4, 3, 1];
 // Two registers count to four.
 #[test]
 fn counter(rt: HostRuntime) -> Result<(), Fail> {
-    look(&GATES, &REGISTERS, &TIMES)?;
-    let c = Circuit::new(&GATES, &REGISTERS, &TIMES);
+    let c = checked(&GATES, &REGISTERS, &TIMES)?;
     let mut bits = [false; 2];
     let mut signals = [false; 4];
     let mut expected = 0;
@@ -30,8 +30,7 @@ fn counter(rt: HostRuntime) -> Result<(), Fail> {
 // Room that is too short is refused by the length that it needs.
 #[test]
 fn short_room(rt: HostRuntime) -> Result<(), Fail> {
-    look(&GATES, &REGISTERS, &TIMES)?;
-    let c = Circuit::new(&GATES, &REGISTERS, &TIMES);
+    let c = checked(&GATES, &REGISTERS, &TIMES)?;
     assert_eq!(rt; settle(c, &mut [true; 3]), Err(Refusal::NoRoom(4)));
     assert_eq!(rt;
         cycle(c, &mut [true; 1], &mut [true; 4]),
@@ -48,8 +47,7 @@ fn short_room(rt: HostRuntime) -> Result<(), Fail> {
 #[test]
 fn exchange(rt: HostRuntime) -> Result<(), Fail> {
     let registers = [1, 0, 0, 0, 0, 0];
-    look(&[], &registers, &TIMES)?;
-    let c = Circuit::new(&[], &registers, &TIMES);
+    let c = checked(&[], &registers, &TIMES)?;
     let mut bits = [true, false];
     cycle(c, &mut bits, &mut [false; 2])?;
     assert!(rt; !bits[0] && bits[1]);
