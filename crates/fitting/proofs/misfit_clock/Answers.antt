@@ -1,6 +1,20 @@
-use Rattle.fitting.specs.Misfit.{ClockWithin}
-use Rattle.fitting.proofs.Firsts.{one_more}
+use Rattle.std.proofs.Common.{not, sym, ◌∙◌, rules}
+use borrow.Author.Tests.{tests}
+use Rattle.std.proofs.lemmas.Iterator.{YieldsList-from_slice, YieldsList-from_map}
+use Rattle.std.proofs.lemmas.Iterator.Adapters.{option_map_id}
+use Rattle.std.proofs.lemmas.Iterator.Consumers.{YieldsList-from_filter, YieldsList-at, min_from_yields_List}
+use Rattle.fitting.specs.Misfit.{ClockWithin, clock_passes}
+use Rattle.fitting.proofs.Firsts.{first_of_least}
+use Rattle.fitting.proofs.Tests.{clock_decides}
 use Rattle.fitting.proofs.misfit_clock.Goals as goal
 
-pub loop-i-preserved : goal.loop-i-preserved
-loop-i-preserved c = one_more (ClockWithin c.args.circuit.registers.now) _ c.loop-i.i c.loop-i.first _ c.clock_within-fits.result c.noted-first.ensures c.clock_within-fits.ensures.yes c.clock_within-fits.ensures.not c.loop-i.invariant
+pub returns : goal.returns
+returns c =
+    let r = c.args.bench.circuit.registers.now in
+    let es = c.args.bench.script.now.clocks in
+    first_of_least (ClockWithin r) (clock_passes r) (clock_decides r) es c.min.result
+    (sym (option_map_id c.min.result) ∙ min_from_yields_List _ c.min.result c.min.ensures.ran
+    (YieldsList-from_map _ (λ e. e.line) (YieldsList-at c.map.ensures.source
+    (YieldsList-from_filter _ (λ e. not (clock_passes r e)) (YieldsList-at c.filter.ensures.source (YieldsList-from_slice es (c.iter.ensures.rest ∙ c.as_slice.ensures.items))) c.filter.ensures.closure
+    (λ x b q k. (search (rules, tests), search (rules, tests)))))
+    c.map.ensures.closure (λ x b q k. search (rules, tests))))
