@@ -7,13 +7,13 @@ ghost use Rattle.script.specs.Told.{take_told};
 mod bench;
 
 pub use bench::Bench;
-use script::{Choice, Kind, Script, chance};
+use script::{Choice, Entry, Kind, Script, chance};
 
 // What register `r` takes at its clock of cycle `n` where it may take anything: as told, else by the seed, else 0.
 pub fn take_of(script: &Script, n: u64, r: usize) -> bool
     ensures { (g rs ts : List ℕ) → result ≡ take_told script.now g rs ts n r }
 {
-    let said = script.said_in(Kind::Take, n, r).map(|e| e.one == 1);
+    let said = script.said_in(Kind::Take, n, r).map(Entry::bit);
     let chosen = script
         .seed
         .map(|seed| chance::odd(Choice::Take.draw(seed, n, r as u64)));

@@ -8,7 +8,7 @@ use Rattle.std.proofs.lemmas.List.Elements.{filter_more}
 use Rattle.std.proofs.lemmas.List.Sums.{fold-append}
 use Rattle.script.specs.declared.entry.Entry.{Entry}
 use Rattle.script.specs.Entries.{no_entry, entry}
-use Rattle.fitting.specs.Misfit.{FirstMisfit, earlier}
+use Rattle.fitting.specs.Misfit.{first_line, FirstMisfit, earlier}
 
 module _ (P : Entry → Type 0) (es : List Entry) (n : ℕ) where
   -- one more that fits
@@ -56,7 +56,7 @@ misfit_both P Q es n (Some l) (Some m) ((i, h, at, bad), before) ((j, k, on, wor
 
 -- the least line of those that do not pass a test
 abbrev least : (Entry → Bool) → List Entry → Option ℕ
-least test es = reduce min (map (λ e. e.line) (filter (λ e. not (test e)) es))
+least test = first_line (λ e. not (test e))
 
 least_push : (ls : List ℕ) (m : ℕ) → reduce min (ls ++ m ∷ []) ≡ earlier (reduce min ls) (Some m)
 least_push [] m = refl
@@ -79,5 +79,5 @@ module _ (P : Entry → Type 0) (test : Entry → Bool) (decides : (e : Entry) �
       more : least test (take (n + 1) es) ≡ cond (test (entry es n)) (least test (take n es)) (earlier (least test (take n es)) (Some (entry es n).line))
       more = rw (filter_more (λ e. not (test e)) es n no_entry h) (least_more (filter (λ e. not (test e)) (take n es)) (entry es n) (test (entry es n)))
 
-  pub first_of_least : (o : Option ℕ) → o ≡ reduce min (map (λ e. e.line) (filter (λ e. not (test e)) es)) → FirstMisfit P es (length es) o
+  pub first_of_least : (o : Option ℕ) → o ≡ first_line (λ e. not (test e)) es → FirstMisfit P es (length es) o
   first_of_least o e = rw e (rw (take_all (length es) es (omega arith)) at (least_of (length es) (omega arith)))

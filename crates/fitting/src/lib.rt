@@ -1,12 +1,13 @@
 // Whether all that a script tells lies within the bounds of a circuit.
 #![tactic(auto)]
 
-ghost use Rattle.std.specs.Prelude.{◌≡◌, ℕ, ◌+◌, ◌*◌, ◌^◌, ◌<◌, ◌≤◌, List, length, MatchResult};
+ghost use Rattle.std.specs.Prelude.{◌≡◌, ℕ, ◌+◌, ◌*◌, ◌^◌, ◌<◌, ◌≤◌, Bool, length, MatchResult};
+ghost use Rattle.std.specs.Iterator.{ActsAsAt};
 ghost use Rattle.circuit.specs.Checked.{of, registers_of};
 ghost use Rattle.circuit.specs.Lent.{period};
 ghost use Rattle.script.specs.Told.{DelayFits, Fits};
 ghost use Rattle.clocks.specs.Benches.{clock_at};
-ghost use Rattle.fitting.specs.Misfit.{FirstMisfit, earlier, ClockWithin, clock_passes, delay_passes, TurnOf, TurnsBelow, Misfit};
+ghost use Rattle.fitting.specs.Misfit.{first_line, FirstMisfit, earlier, ClockWithin, clock_passes, delay_passes, TurnOf, TurnsBelow, Misfit};
 
 mod unfit;
 
@@ -46,18 +47,20 @@ fn clock_within(circuit: Circuit<'_>, e: &Entry) -> bool
         })
 }
 
+// The first line of the statements that a test picks.
+fn first_line<F: FnMut(&&Entry) -> bool>(entries: &[Entry], picks: F) -> Option<usize>
+    requires { (state : F) (x : _) → F.pre state x }
+    ensures { (test : Entry → Bool) → ActsAsAt F.FnMut picks (λ x. test x.now) → result ≡ first_line test entries.now }
+{
+    entries.iter().filter(picks).map(|e| e.line).min()
+}
+
 // The first line on which a delay does not fit.
 fn misfit_delay(bench: Bench<'_>) -> Option<usize>
     ensures { FirstMisfit (of bench.entry.circuit (DelayFits bench.entry.script.now)) bench.entry.script.now.delays (length bench.entry.script.now.delays) result }
 {
     let Bench { circuit, script } = bench;
-    script
-        .delays
-        .as_slice()
-        .iter()
-        .filter(|e| !delay_fits(circuit, e))
-        .map(|e| e.line)
-        .min()
+    first_line(script.delays.as_slice(), |e| !delay_fits(circuit, e))
 }
 
 // The first line on which a clock is out of its register's bounds.
@@ -65,13 +68,7 @@ fn misfit_clock(bench: Bench<'_>) -> Option<usize>
     ensures { FirstMisfit (ClockWithin bench.entry.circuit.registers.now) bench.entry.script.now.clocks (length bench.entry.script.now.clocks) result }
 {
     let Bench { circuit, script } = bench;
-    script
-        .clocks
-        .as_slice()
-        .iter()
-        .filter(|e| !clock_within(circuit, e))
-        .map(|e| e.line)
-        .min()
+    first_line(script.clocks.as_slice(), |e| !clock_within(circuit, e))
 }
 
 // The clock of register `r` in cycle `to`, from its clock in cycle `from`.

@@ -10,6 +10,10 @@ no_entry = record { line = 0; when = 0; who = 0; one = 0; two = 0 }
 abbrev pub entry : List Entry → ℕ → Entry
 entry es i = slice_index_or es i no_entry
 
+-- 1 is the bit 1
+abbrev pub bit_said : Entry → Bool
+bit_said e = e.one == 1
+
 -- the last of the first n statements for which a test holds
 unfoldable pub last_of : (Entry → Bool) → List Entry → ℕ → Option Entry
 last_of test es zero = None

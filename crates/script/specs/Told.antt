@@ -1,5 +1,5 @@
 -- What a script tells a machine.
-use Rattle.std.specs.Prelude.{◌≡◌, ℕ, zero, suc, ◌+◌, ◌*◌, ◌/◌, ◌^◌, ◌<◌, ◌≤◌, max, Bool, false, List, length, vec_items, ◌==◌, slice_index_or}
+use Rattle.std.specs.Prelude.{◌≡◌, ℕ, zero, suc, ◌+◌, ◌*◌, ◌/◌, ◌^◌, ◌<◌, ◌≤◌, max, Bool, false, List, length, vec_items, slice_index_or}
 use Rattle.std.specs.Option.{option_map_or}
 use Rattle.circuit.specs.Lent.{gate_count, register_count, gate_in, early, late, period}
 use Rattle.promise.specs.Machine.{machine_in, Formed}
@@ -9,11 +9,7 @@ use Rattle.script.specs.declared.script.Script.{Script}
 use Rattle.script.specs.declared.chance.Choice.TheVariants.{Start, Delay, Show, Clock, Take}
 use Rattle.script.specs.Chance.{between, odd}
 use Rattle.script.specs.Choices.{drawn}
-use Rattle.script.specs.Entries.{entry, said_by, said_in}
-
--- 1 is the bit 1
-abbrev pub bit_said : Entry → Bool
-bit_said e = e.one == 1
+use Rattle.script.specs.Entries.{entry, bit_said, said_by, said_in}
 
 module _ (s : Script) (g r ts : List ℕ) where
   -- a register's bit at the start: as told, else chosen by the seed, else 0

@@ -8,8 +8,8 @@ use Rattle.script.specs.declared.script.Script.{Script}
 use Rattle.script.specs.declared.chance.Choice.TheVariants.{Delay, Show}
 use Rattle.script.specs.Chance.{between, odd}
 use Rattle.script.specs.Choices.{drawn}
-use Rattle.script.specs.Entries.{entry, last_of, about}
-use Rattle.script.specs.Told.{bit_said, clock_told, take_told}
+use Rattle.script.specs.Entries.{entry, bit_said, last_of, about}
+use Rattle.script.specs.Told.{clock_told, take_told}
 
 -- the first i statements are those of the moments before t
 pub record DoneBefore (es : List Entry) (t i : ℕ) : Type 0 where

@@ -70,7 +70,7 @@ fn show_of(r: usize, seed: Option<u64>, t: u64, said: Option<Entry>) -> bool
     ensures { result ≡ show_of seed r t said }
 {
     let chosen = seed.map(|seed| chance::odd(Choice::Show.draw(seed, r as u64, t)));
-    said.map(|e| e.one == 1).or(chosen).unwrap_or(false)
+    said.map(Entry::bit).or(chosen).unwrap_or(false)
 }
 
 // What all registers show at moment `t` where they may show anything.

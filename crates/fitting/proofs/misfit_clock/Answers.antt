@@ -1,20 +1,15 @@
-use Rattle.std.proofs.Common.{not, sym, ◌∙◌, rules}
+use Rattle.std.proofs.Common.{not, ap, ◌∙◌, rules}
 use borrow.Author.Tests.{tests}
-use Rattle.std.proofs.lemmas.Iterator.{YieldsList-from_slice, YieldsList-from_map}
-use Rattle.std.proofs.lemmas.Iterator.Adapters.{option_map_id}
-use Rattle.std.proofs.lemmas.Iterator.Consumers.{YieldsList-from_filter, YieldsList-at, min_from_yields_List}
-use Rattle.fitting.specs.Misfit.{ClockWithin, clock_passes}
+use Rattle.fitting.specs.Misfit.{ClockWithin}
+use Rattle.fitting.specs.Misfit.{first_line, clock_passes}
 use Rattle.fitting.proofs.Firsts.{first_of_least}
 use Rattle.fitting.proofs.Tests.{clock_decides}
 use Rattle.fitting.proofs.misfit_clock.Goals as goal
 
 pub returns : goal.returns
 returns c =
-    let r = c.args.bench.circuit.registers.now in
-    let es = c.args.bench.script.now.clocks in
-    first_of_least (ClockWithin r) (clock_passes r) (clock_decides r) es c.min.result
-    (sym (option_map_id c.min.result) ∙ min_from_yields_List _ c.min.result c.min.ensures.ran
-    (YieldsList-from_map _ (λ e. e.line) (YieldsList-at c.map.ensures.source
-    (YieldsList-from_filter _ (λ e. not (clock_passes r e)) (YieldsList-at c.filter.ensures.source (YieldsList-from_slice es (c.iter.ensures.rest ∙ c.as_slice.ensures.items))) c.filter.ensures.closure
-    (λ x b q k. (search (rules, tests), search (rules, tests)))))
-    c.map.ensures.closure (λ x b q k. search (rules, tests))))
+    let k = c.args.bench.circuit in
+    let s = c.args.bench.script.now in
+    let r = k.registers.now in
+    first_of_least (ClockWithin r) (clock_passes r) (clock_decides r) s.clocks c.first_line.result
+    (c.first_line.ensures (λ e. not (clock_passes r e)) (λ x b q k. (search (rules, tests), search (rules, tests))) ∙ ap (first_line (λ e. not (clock_passes r e))) c.as_slice.ensures.items)
