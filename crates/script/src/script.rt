@@ -50,7 +50,8 @@ impl Script {
         }
     }
 
-    // One statement more of a kind, true; or false where it comes before another of its kind, and nothing is changed.
+    // One statement more of a kind, true; or false where it comes before another of its kind, and nothing is changed. That
+    // is no error, as with a set's `insert`, so it stands beside the one error that there is.
     pub fn push(&mut self, kind: Kind, e: Entry) -> Result<bool, AllocError>
         ensures { MatchResult result (λ added. PushAnswer kind e self.old self.new added) (λ _. KeptAll kind self.old self.new) }
     {
