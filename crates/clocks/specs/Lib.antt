@@ -1,1 +1,1 @@
-pub mod Small
+pub mod Benches

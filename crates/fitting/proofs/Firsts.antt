@@ -1,9 +1,14 @@
 -- The first line of a misfit, statement by statement.
-use Rattle.std.proofs.Common.{◌≡◌, ℕ, ◌+◌, ◌<◌, min, Bool, true, false, cond, List, Some, None, Option, refl, inl, inr, arith, below_more}
-use Rattle.std.proofs.lemmas.Bool.{cases_lt}
+use Rattle.std.proofs.Common.{◌≡◌, ℕ, zero, suc, ◌+◌, ◌<◌, ◌≤◌, min, Bool, true, false, not, cond, List, [], ◌∷◌, ◌++◌, length, take, map, Some, None, Option, refl, ap, inl, inr, add-one, arith, below_more}
+use Rattle.std.specs.Bool.{Decides}
+use Rattle.std.specs.List.{filter, reduce}
+use Rattle.std.proofs.lemmas.Bool.{cases_lt, both_ways}
+use Rattle.std.proofs.lemmas.List.{append-nil, map-append, take_all}
+use Rattle.std.proofs.lemmas.List.Elements.{filter_more}
+use Rattle.std.proofs.lemmas.List.Sums.{fold-append}
 use Rattle.script.specs.declared.entry.Entry.{Entry}
-use Rattle.script.specs.Entries.{entry}
-use Rattle.fitting.specs.Misfit.{FirstMisfit, earlier}
+use Rattle.script.specs.Entries.{no_entry, entry}
+use Rattle.fitting.specs.Misfit.{first_line, FirstMisfit, earlier}
 
 module _ (P : Entry → Type 0) (es : List Entry) (n : ℕ) where
   -- one more that fits
@@ -12,7 +17,7 @@ module _ (P : Entry → Type 0) (es : List Entry) (n : ℕ) where
   fit_more (Some l) fits ((i, h, at, bad), before) = ((i, omega arith, at, bad), below_more (λ j. (entry es j).line < l → P (entry es j)) n before (λ _. fits))
 
   -- one more that does not
-  misfit_more : (o : Option ℕ) → (P (entry es n) → ⊥) → FirstMisfit P es n o → FirstMisfit P es (n + 1) (earlier o (Some (entry es n).line))
+  pub misfit_more : (o : Option ℕ) → (P (entry es n) → ⊥) → FirstMisfit P es n o → FirstMisfit P es (n + 1) (earlier o (Some (entry es n).line))
   misfit_more None bad all = ((n, omega arith, refl, bad), below_more (λ j. (entry es j).line < (entry es n).line → P (entry es j)) n (λ j l _. all j l) (λ l. absurd (omega arith)))
   misfit_more (Some l) bad ((i, h, at, worse), before) = (first, rest)
     where
@@ -26,7 +31,7 @@ module _ (P : Entry → Type 0) (es : List Entry) (n : ℕ) where
       rest = below_more (λ j. (entry es j).line < min l (entry es n).line → P (entry es j)) n (λ j b q. before j b (omega arith)) (λ q. absurd (omega arith))
 
   -- one more that does or does not, as a test says
-  pub one_more : (o o' : Option ℕ) (fits : Bool) → o' ≡ cond fits o (earlier o (Some (entry es n).line)) → (fits ≡ true → P (entry es n)) → (fits ≡ false → P (entry es n) → ⊥) →
+  one_more : (o o' : Option ℕ) (fits : Bool) → o' ≡ cond fits o (earlier o (Some (entry es n).line)) → (fits ≡ true → P (entry es n)) → (fits ≡ false → P (entry es n) → ⊥) →
       FirstMisfit P es n o → FirstMisfit P es (n + 1) o'
   one_more o o' true e good bad so_far = rw e (fit_more o (good refl) so_far)
   one_more o o' false e good bad so_far = rw e (misfit_more o (bad refl) so_far)
@@ -48,3 +53,31 @@ misfit_both P Q es n (Some l) (Some m) ((i, h, at, bad), before) ((j, k, on, wor
       | inl less ↦ (j, k, omega (arith, on), λ z. worse z.1)
       | inr more ↦ (i, h, omega (arith, at), λ z. bad z.0)
     ]
+
+-- the least line of those that do not pass a test
+abbrev least : (Entry → Bool) → List Entry → Option ℕ
+least test = first_line (λ e. not (test e))
+
+least_push : (ls : List ℕ) (m : ℕ) → reduce min (ls ++ m ∷ []) ≡ earlier (reduce min ls) (Some m)
+least_push [] m = refl
+least_push (l ∷ ls) m = ap Some (fold-append min l ls (m ∷ []))
+
+least_more : (ys : List Entry) (e : Entry) (passes : Bool) →
+    reduce min (map (λ x. x.line) (ys ++ cond (not passes) (e ∷ []) [])) ≡ cond passes (reduce min (map (λ x. x.line) ys)) (earlier (reduce min (map (λ x. x.line) ys)) (Some e.line))
+least_more ys e true = rw (append-nil ys) refl
+least_more ys e false = rw (map-append (λ (x : Entry). x.line) ys (e ∷ [])) (least_push (map (λ x. x.line) ys) e.line)
+
+-- a test that decides finds the first misfit
+module _ (P : Entry → Type 0) (test : Entry → Bool) (decides : (e : Entry) → Decides (test e) (P e)) (es : List Entry) where
+  least_of : (n : ℕ) → n ≤ length es → FirstMisfit P es n (least test (take n es))
+  least_of zero h = λ i l. absurd (omega arith)
+  least_of (suc n) h = rw (← add-one n) (one_more P es n (least test (take n es)) (least test (take (n + 1) es)) (test (entry es n)) more (decides (entry es n)).0 bad (least_of n (omega arith)))
+    where
+      bad : test (entry es n) ≡ false → P (entry es n) → ⊥
+      bad f p = both_ways (test (entry es n)) f ((decides (entry es n)).1 p)
+
+      more : least test (take (n + 1) es) ≡ cond (test (entry es n)) (least test (take n es)) (earlier (least test (take n es)) (Some (entry es n).line))
+      more = rw (filter_more (λ e. not (test e)) es n no_entry h) (least_more (filter (λ e. not (test e)) (take n es)) (entry es n) (test (entry es n)))
+
+  pub first_of_least : (o : Option ℕ) → o ≡ first_line (λ e. not (test e)) es → FirstMisfit P es (length es) o
+  first_of_least o e = rw e (rw (take_all (length es) es (omega arith)) at (least_of (length es) (omega arith)))

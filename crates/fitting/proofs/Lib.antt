@@ -1,3 +1,4 @@
 pub mod Firsts
+pub mod Tests
 pub mod Turning
 pub mod Together

@@ -1,5 +1,5 @@
 -- All registers, and all that is told.
-use Rattle.std.proofs.Common.{◌≡◌, ℕ, ◌+◌, min, List, length, Some, None, vec_items, Option, sym, refl, ◌∙◌, inl, inr, arith}
+use Rattle.std.proofs.Common.{◌≡◌, ℕ, ◌+◌, min, List, length, Some, None, Option, sym, refl, ◌∙◌, inl, inr, arith}
 use Rattle.std.proofs.lemmas.Bool.{cases_lt, cases_eq}
 use Rattle.circuit.specs.Lent.{register_count}
 use Rattle.script.specs.declared.entry.Entry.{Entry}
@@ -12,10 +12,10 @@ use Rattle.fitting.proofs.Firsts.{misfit_same, misfit_both}
 
 module _ (s : Script) (g r ts : List ℕ) where
   abbrev clocks : List Entry
-  clocks = vec_items s.clocks
+  clocks = s.clocks
 
   abbrev delays : List Entry
-  delays = vec_items s.delays
+  delays = s.delays
 
   pub turns_none : FirstMisfit (TurnsBelow s g r ts 0) clocks (length clocks) None
   turns_none i h l = absurd (omega arith)

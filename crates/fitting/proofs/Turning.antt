@@ -1,13 +1,12 @@
 -- The clocks of one register, statement by statement.
-use Rattle.std.proofs.Common.{◌≡◌, ℕ, suc, ◌+◌, ◌-◌, ◌*◌, ◌^◌, ◌<◌, ◌≤◌, true, false, cond, ltb, ◌⊎◌, List, length, Some, Option, sym, inl, inr, arith}
-use Rattle.std.proofs.lemmas.Bool.{ltb-true, ltb-false}
+use Rattle.std.proofs.Common.{◌≡◌, ℕ, suc, ◌+◌, ◌-◌, ◌*◌, ◌^◌, ◌<◌, ◌≤◌, ◌⊎◌, List, length, Some, Option, sym, inl, inr, arith}
 use Rattle.circuit.specs.Lent.{period}
 use Rattle.script.specs.declared.entry.Entry.{Entry}
 use Rattle.script.specs.declared.script.Script.{Script}
-use Rattle.script.specs.Entries.{entry, Ordered}
+use Rattle.script.specs.Entries.{no_entry, entry, Ordered}
 use Rattle.script.specs.Told.{clock_told}
 use Rattle.fitting.specs.Misfit.{FirstMisfit, earlier, TurnOf}
-use Rattle.fitting.proofs.Firsts.{one_more, fit_more}
+use Rattle.fitting.proofs.Firsts.{fit_more, misfit_more}
 
 -- after i statements: the clock of cycle n is known, no statement to come is before the next cycle, and the first line is that of the misfits so far
 pub record Walked (s : Script) (g r ts : List ℕ) (q : ℕ) (es : List Entry) (i n clock : ℕ) (first : Option ℕ) : Type 0 where
@@ -36,27 +35,27 @@ module _ {s : Script} {g r ts : List ℕ} {q : ℕ} {es : List Entry} {i n clock
       fits (inl ne) = λ e. absurd (ne e)
       fits (inr z) = λ e m w. absurd (omega arith)
 
-  -- one of its clocks
+  -- one of its clocks, which comes after the one before it or does not
   pub looked_at : (c : ℕ) (after : Option ℕ) → Ordered es → i < length es → (entry es i).who ≡ q → 0 < (entry es i).when → (entry es i).when < 2 ^ 32 →
       c ≡ clock_told s g r ts ((entry es i).when - 1) q → c ≤ ((entry es i).when - 1) * period ts + ((entry es i).when - 1) + 2 ^ 32 →
-      after ≡ cond (ltb c ((entry es i).when * period ts + (entry es i).one)) first (earlier first (Some (entry es i).line)) →
+      ((c < (entry es i).when * period ts + (entry es i).one) × (after ≡ first)) ⊎ (((entry es i).when * period ts + (entry es i).one ≤ c) × (after ≡ earlier first (Some (entry es i).line))) →
       Walked s g r ts q es (i + 1) ((entry es i).when - 1) c after
   looked_at c after order h who some low is bound next = record {
     clock_is = is;
     small = omega arith;
     bound = bound;
-    to_come = λ j l b. omega (arith, order i j (omega arith) b);
-    so_far = one_more (TurnOf s g r ts q) es i first after _ next good bad walked.so_far;
+    to_come = λ j l b. omega (arith, order i j no_entry (omega arith) b);
+    so_far = elim next [
+      | inl fits ↦ rw fits.1 (fit_more (TurnOf s g r ts q) es i first (λ w m e. rw (before m e) fits.0) walked.so_far)
+      | inr not ↦ rw not.1 (misfit_more (TurnOf s g r ts q) es i first (bad not.0) walked.so_far)
+    ];
   }
     where
       before : (m : ℕ) → (entry es i).when ≡ suc m → clock_told s g r ts m (entry es i).who ≡ c
       before m e = let z : (entry es i).when - 1 ≡ m = omega arith in rw who (rw z at (sym is))
 
-      good : ltb c ((entry es i).when * period ts + (entry es i).one) ≡ true → TurnOf s g r ts q (entry es i)
-      good t w m e = rw (before m e) (ltb-true _ _ t)
-
-      bad : ltb c ((entry es i).when * period ts + (entry es i).one) ≡ false → TurnOf s g r ts q (entry es i) → ⊥
+      bad : (entry es i).when * period ts + (entry es i).one ≤ c → TurnOf s g r ts q (entry es i) → ⊥
       bad f turn =
           let e : (entry es i).when ≡ suc ((entry es i).when - 1) = omega arith in
           let l = rw (before ((entry es i).when - 1) e) at (turn who ((entry es i).when - 1) e) in
-          omega (arith, ltb-false _ _ f)
+          omega (arith, f)

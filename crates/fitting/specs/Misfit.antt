@@ -1,12 +1,17 @@
 -- Statements that do not fit, and the first line on which one stands.
-use Rattle.std.specs.Prelude.{◌≡◌, ℕ, suc, ◌+◌, ◌*◌, ◌<◌, ◌≤◌, min, ◌⊎◌, List, length, Some, None, vec_items, Option}
-use Rattle.circuit.specs.Lent.{register_count, early, late, period}
+use Rattle.std.specs.Prelude.{◌≡◌, ℕ, suc, ◌+◌, ◌*◌, ◌<◌, ◌≤◌, min, Bool, ◌&&◌, nat_lt, nat_le, ◌⊎◌, List, length, map, filter, Some, None, Option}
+use Rattle.std.specs.List.{reduce}
+use Rattle.circuit.specs.Lent.{gate_count, register_count, gate_in, early, late, period}
 use Rattle.script.specs.declared.entry.Entry.{Entry}
 use Rattle.script.specs.declared.script.Script.{Script}
 use Rattle.script.specs.Entries.{entry}
 use Rattle.script.specs.Told.{clock_told, DelayFits, ClockFits}
 use Rattle.fitting.specs.declared.unfit.Unfit.{Unfit}
 use Rattle.fitting.specs.declared.unfit.Unfit.TheVariants.{OutOfBounds}
+
+-- the least line of the statements that pass a test
+abbrev pub first_line : (Entry → Bool) → List Entry → Option ℕ
+first_line test es = reduce min (map (λ e. e.line) (filter test es))
 
 -- P holds of the first n statements; or l is the first line of one of which it does not
 abbrev pub FirstMisfit : (Entry → Type 0) → List Entry → ℕ → Option ℕ → Type 0
@@ -24,6 +29,14 @@ pub record ClockWithin (r : List ℕ) (e : Entry) : Type 0 where
   pub register : e.who < register_count r
   pub within : (early r e.who ≤ e.one) × (e.one ≤ late r e.who)
 
+-- the same as a test, and as a test that a delay lies within the bounds of its gate
+abbrev pub clock_passes : List ℕ → Entry → Bool
+clock_passes r e = nat_lt e.who (register_count r) && (nat_le (early r e.who) e.one && nat_le e.one (late r e.who))
+
+abbrev pub delay_passes : List ℕ → Entry → Bool
+delay_passes g e =
+    nat_lt e.who (gate_count g) && ((nat_le (gate_in g e.who).least_one e.one && nat_le e.one (gate_in g e.who).greatest_one) && (nat_le (gate_in g e.who).least_two e.two && nat_le e.two (gate_in g e.who).greatest_two))
+
 -- a clock comes after the one before it
 abbrev pub InTurn : (s : Script) (g r ts : List ℕ) → Entry → Type 0
 InTurn s g r ts e = (n : ℕ) → e.when ≡ suc n → clock_told s g r ts n e.who < e.when * period ts + e.one
@@ -39,7 +52,7 @@ TurnsBelow s g r ts q e = e.who < q → InTurn s g r ts e
 pub record Misfit (s : Script) (g r ts : List ℕ) (e : Unfit) : Type 0 where
   pub line : ℕ
   pub is : e ≡ OutOfBounds line
-  pub there : ((i : ℕ) × (i < length (vec_items s.delays)) × ((entry (vec_items s.delays) i).line ≡ line) × (DelayFits s g r ts (entry (vec_items s.delays) i) → ⊥))
-      ⊎ ((i : ℕ) × (i < length (vec_items s.clocks)) × ((entry (vec_items s.clocks) i).line ≡ line) × (ClockFits s g r ts (entry (vec_items s.clocks) i) → ⊥))
-  pub delays_before : (i : ℕ) → i < length (vec_items s.delays) → (entry (vec_items s.delays) i).line < line → DelayFits s g r ts (entry (vec_items s.delays) i)
-  pub clocks_before : (i : ℕ) → i < length (vec_items s.clocks) → (entry (vec_items s.clocks) i).line < line → ClockFits s g r ts (entry (vec_items s.clocks) i)
+  pub there : ((i : ℕ) × (i < length s.delays) × ((entry s.delays i).line ≡ line) × (DelayFits s g r ts (entry s.delays i) → ⊥))
+      ⊎ ((i : ℕ) × (i < length s.clocks) × ((entry s.clocks i).line ≡ line) × (ClockFits s g r ts (entry s.clocks i) → ⊥))
+  pub delays_before : (i : ℕ) → i < length s.delays → (entry s.delays i).line < line → DelayFits s g r ts (entry s.delays i)
+  pub clocks_before : (i : ℕ) → i < length s.clocks → (entry s.clocks i).line < line → ClockFits s g r ts (entry s.clocks i)

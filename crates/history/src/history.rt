@@ -1,7 +1,8 @@
 // A memory of bits.
 ghost use Rattle.std.specs.Prelude.{◌*◌, ◌^◌, ◌≤◌, vec_len};
 
-// For each of some rows its bits of the last `1 << log` moments, packed.
+// For each of some rows its bits of the last `1 << log` moments, packed. No model: what is kept is a function of row and
+// moment, and a model's value is data.
 #[derive(Drop)]
 pub struct History {
     pub(crate) words: Vec<u64>,

@@ -25,12 +25,11 @@ fn put_bit(words: &mut [u64], i: usize, bit: bool)
 
 // The smallest number of which two to its power is above `n`.
 fn bits_of(n: u64) -> u32
-    requires { n < 2 ^ 31 }
-    ensures low { result ≤ 31 }
+    ensures low { n < 2 ^ 31 → result ≤ 31 }
     ensures above { n < 2 ^ result }
     ensures least { 2 ^ result ≤ 2 * n + 1 }
 {
-    64 - n.leading_zeros()
+    u64::BITS - n.leading_zeros()
 }
 
 impl History {
@@ -38,13 +37,18 @@ impl History {
     pub fn new(heap: Global, rows: usize, back: u64) -> Result<History, AllocError>
         ensures { IfOk result (λ h. Fresh h rows back) }
     {
-        if rows as u64 > MOST || back >= MOST {
-            return Err(AllocError);
-        }
         let log = bits_of(back);
-        let bits = rows << log;
-        let words = vec![in heap; 0; bits.div_ceil(64)]?;
-        Ok(History { words, rows, log })
+        // past the limits it asks for more words than any memory has
+        let words = if rows as u64 <= MOST && back < MOST {
+            (rows << log).div_ceil(64)
+        } else {
+            usize::MAX
+        };
+        Ok(History {
+            words: vec![in heap; 0; words]?,
+            rows,
+            log,
+        })
     }
 
     fn place(&self, row: usize, at: u64) -> usize

@@ -10,8 +10,3 @@ scaled h s l pos = div_below (h * s) (2 ^ 32) s (omega arith) (omega (arith, mul
 pub between_in : (h low high : ℕ) → low ≤ high → (low ≤ between h low high) × (between h low high ≤ high)
 unfolding between
 between_in h low high o = let s = scaled (h % 2 ^ 32) (min (high - low) (2 ^ 32 - 1) + 1) (mod_below h (2 ^ 32) (omega arith)) (omega arith) in (omega arith, omega arith)
-
--- with bounds that are not in order it is the lower one
-pub between_most : (h low high : ℕ) → between h low high ≤ low + (high - low)
-unfolding between
-between_most h low high = let s = scaled (h % 2 ^ 32) (min (high - low) (2 ^ 32 - 1) + 1) (mod_below h (2 ^ 32) (omega arith)) (omega arith) in omega arith

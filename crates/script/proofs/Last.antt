@@ -1,8 +1,10 @@
 -- The last statement for which a test holds.
-use Rattle.std.proofs.Common.{◌≡◌, ℕ, zero, suc, ◌+◌, ◌<◌, ◌≤◌, Bool, true, false, eqb, List, Some, None, refl, inl, inr, add-one, arith}
-use Rattle.std.proofs.lemmas.Bool.{cases_Bool, cases_eq, eq-eqb, ne_eqb, and_from, and_left, and_right}
+use Rattle.std.proofs.Common.{◌≡◌, ℕ, zero, suc, ◌+◌, ◌-◌, ◌<◌, ◌≤◌, Bool, true, false, List, length, Some, None, [], ◌∷◌, cond, take, drop, reverse, find, sym, refl, ◌∙◌, inl, inr, add-one, arith}
+use Rattle.std.proofs.Math.Seq.{take-suc}
+use Rattle.std.proofs.lemmas.List.{reverse-append, take_all, length-take-le, length-drop, get_or-take, get_or-drop}
+use Rattle.std.proofs.lemmas.Bool.{cases_Bool, cases_eq, eq-eqb, ne_eqb, and_left}
 use Rattle.script.specs.declared.entry.Entry.{Entry}
-use Rattle.script.specs.Entries.{entry, last_of, on}
+use Rattle.script.specs.Entries.{no_entry, entry, last_of, about, on}
 
 module _ (test : Entry → Bool) (es : List Entry) where
   -- one statement more: it is the last, or not
@@ -50,13 +52,39 @@ unfolding last_of
 last_same test other es zero same = refl
 last_same test other es (suc n) same = rw (same n (omega arith), last_same test other es n (λ i l. same i (omega arith)))
 
--- a statement of another cycle, or about another register, is none in this cycle about this register
-module _ (es : List Entry) (i n who : ℕ) where
-  pub other_cycle : ((entry es i).when ≡ n → ⊥) → on n who (entry es i) ≡ false
-  other_cycle ne = and_left _ _ (ne_eqb _ _ ne)
+-- a statement of another cycle is none in this one
+other_cycle : (es : List Entry) (i n who : ℕ) → ((entry es i).when ≡ n → ⊥) → on n who (entry es i) ≡ false
+other_cycle es i n who ne = and_left _ _ (ne_eqb _ _ ne)
 
-  pub other_register : ((entry es i).who ≡ who → ⊥) → on n who (entry es i) ≡ false
-  other_register ne = and_right (eqb (entry es i).when n) _ (ne_eqb _ _ ne)
+-- of the first statements of a list, the one that is found from the end
+find_from_end : (test : Entry → Bool) (es : List Entry) (m : ℕ) → m < length es → find test (reverse (take (suc m) es)) ≡ cond (test (entry es m)) (Some (entry es m)) (find test (reverse (take m es)))
+find_from_end test es m h = rw (take-suc es m no_entry h, reverse-append (take m es) (entry es m ∷ [])) refl
 
-  pub this_one : (entry es i).when ≡ n → (entry es i).who ≡ who → on n who (entry es i) ≡ true
-  this_one a b = and_from _ _ (eq-eqb _ _ a) (eq-eqb _ _ b)
+-- the statements of a cycle stand from `first` on among those up to it
+module _ (es : List Entry) (n who first past : ℕ) (fits : past ≤ length es) (within : first ≤ past) (upto : (i : ℕ) → i < past → (entry es i).when ≤ n) (after : (i : ℕ) → past ≤ i → i < length es → n < (entry es i).when)
+    (before : (i : ℕ) → i < first → (entry (take past es) i).when < n) (from : (i : ℕ) → first ≤ i → i < past → n ≤ (entry (take past es) i).when) where
+  abbrev part : List Entry
+  part = drop first (take past es)
+
+  at : (i : ℕ) → i < past → entry (take past es) i ≡ entry es i
+  at i h = get_or-take past es i no_entry h
+
+  long : length part ≡ past - first
+  long = omega (arith, length-drop first (take past es), length-take-le past es fits)
+
+  found_in : (m : ℕ) → m ≤ past - first → find (about who) (reverse (take m part)) ≡ last_of (on n who) es (first + m)
+  unfolding last_of
+  found_in zero h = sym (last_none (on n who) es (first + 0) (λ i l. let b = rw (at i (omega arith)) at (before i (omega arith)) in other_cycle es i n who (λ e. omega (arith, b))))
+  found_in (suc m) h =
+      let more = found_in m (omega arith) in
+      let e : first + suc m ≡ suc (first + m) = omega arith in
+      let least = rw (at (first + m) (omega arith)) at (from (first + m) (omega arith) (omega arith)) in
+      let now : (entry es (first + m)).when ≡ n = omega (arith, least, upto (first + m) (omega arith)) in
+      let same : entry part m ≡ entry es (first + m) = get_or-drop first (take past es) m no_entry ∙ at (first + m) (omega arith) in
+      rw e (find_from_end (about who) part m (omega (arith, long)) ∙ rw (same, more, eq-eqb _ _ now) refl)
+
+  pub found_in_part : find (about who) (reverse part) ≡ last_of (on n who) es (length es)
+  found_in_part =
+      let all : take (past - first) part ≡ part = take_all (past - first) part (omega (arith, long)) in
+      let end : first + (past - first) ≡ past = omega arith in
+      rw (all, end) at (found_in (past - first) (omega arith)) ∙ sym (last_rest (on n who) es past (length es) fits (λ i a b. other_cycle es i n who (λ e. omega (arith, after i a b))))

@@ -1,4 +1,3 @@
 pub mod Choosing
 pub mod Last
-pub mod Pushing
 pub mod Telling

@@ -1,5 +1,6 @@
 -- Statements of one kind, in order.
-use Rattle.std.specs.Prelude.{ℕ, zero, suc, ◌<◌, ◌≤◌, Bool, cond, ◌&&◌, List, length, Some, None, Option, ◌==◌, nat_le, slice_index_or}
+use Rattle.std.specs.Prelude.{◌≡◌, ℕ, zero, suc, ◌<◌, Bool, true, false, cond, ◌&&◌, List, [], ◌∷◌, ◌++◌, length, Some, None, Option, ◌==◌, nat_le, slice_index_or}
+use Rattle.std.specs.List.Sorted.{IsNonDecreasingBy}
 use Rattle.script.specs.declared.entry.Entry.{Entry}
 
 abbrev pub no_entry : Entry
@@ -8,6 +9,10 @@ no_entry = record { line = 0; when = 0; who = 0; one = 0; two = 0 }
 -- statement i
 abbrev pub entry : List Entry → ℕ → Entry
 entry es i = slice_index_or es i no_entry
+
+-- 1 is the bit 1
+abbrev pub bit_said : Entry → Bool
+bit_said e = e.one == 1
 
 -- the last of the first n statements for which a test holds
 unfoldable pub last_of : (Entry → Bool) → List Entry → ℕ → Option Entry
@@ -28,4 +33,16 @@ on n who e = e.when == n && about who e
 
 -- statements come in order of their moments or cycles
 abbrev pub Ordered : List Entry → Type 0
-Ordered es = (i j : ℕ) → i ≤ j → j < length es → (entry es i).when ≤ (entry es j).when
+Ordered es = IsNonDecreasingBy (λ (e : Entry). e.when) es
+
+-- a statement was added to a list, true; or it would stand out of order in it, false, and the list is as it was
+abbrev pub Added : Entry → (es es' : List Entry) → Bool → Type 0
+Added e es es' true = (es' ≡ es ++ (e ∷ [])) × Ordered es'
+Added e es es' false = ((i : ℕ) × (i < length es) × (e.when < (entry es i).when)) × (es' ≡ es)
+
+-- the last statement of a kind about a gate or register that is due at moment t; the last that speaks of it in cycle n
+abbrev pub said_by : List Entry → (t who : ℕ) → Option Entry
+said_by es t who = last_of (due t who) es (length es)
+
+abbrev pub said_in : List Entry → (n who : ℕ) → Option Entry
+said_in es n who = last_of (on n who) es (length es)

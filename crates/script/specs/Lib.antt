@@ -1,4 +1,5 @@
 pub mod Chance
+pub mod Choices
 pub mod Entries
 pub mod Told
 pub mod Pushed

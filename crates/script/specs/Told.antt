@@ -1,57 +1,39 @@
 -- What a script tells a machine.
-use Rattle.std.specs.Prelude.{◌≡◌, ℕ, zero, suc, ◌+◌, ◌*◌, ◌/◌, ◌^◌, ◌<◌, ◌≤◌, max, Bool, false, cond, List, length, Some, None, vec_items, Option, ◌==◌, slice_index_or}
+use Rattle.std.specs.Prelude.{◌≡◌, ℕ, zero, suc, ◌+◌, ◌*◌, ◌/◌, ◌^◌, ◌<◌, ◌≤◌, max, Bool, false, List, length, vec_items, slice_index_or}
+use Rattle.std.specs.Option.{option_map_or}
 use Rattle.circuit.specs.Lent.{gate_count, register_count, gate_in, early, late, period}
 use Rattle.promise.specs.Machine.{machine_in, Formed}
 use Rattle.simulation.specs.Simulated.{Told, MayTell}
 use Rattle.script.specs.declared.entry.Entry.{Entry}
 use Rattle.script.specs.declared.script.Script.{Script}
-use Rattle.script.specs.Chance.{drawn_from, between, odd}
-use Rattle.script.specs.Entries.{entry, last_of, due, on}
-
--- what a statement says, or else what stands in for it
-abbrev pub said_or : {A : Type 0} → Option Entry → (Entry → A) → A → A
-said_or None f other = other
-said_or (Some e) f other = f e
-
--- what is chosen by a seed, or else what stands in for it
-abbrev pub chosen_or : {A : Type 0} → Option ℕ → (ℕ → A) → A → A
-chosen_or None f other = other
-chosen_or (Some n) f other = f n
-
--- 1 is the bit 1
-abbrev pub bit_said : Entry → Bool
-bit_said e = e.one == 1
-
--- the last statement of a kind about a gate or register that is due at moment t; the last that speaks of it in cycle n
-abbrev pub said_by : List Entry → (t who : ℕ) → Option Entry
-said_by es t who = last_of (due t who) es (length es)
-
-abbrev pub said_in : List Entry → (n who : ℕ) → Option Entry
-said_in es n who = last_of (on n who) es (length es)
+use Rattle.script.specs.declared.chance.Choice.TheVariants.{Start, Delay, Show, Clock, Take}
+use Rattle.script.specs.Chance.{between, odd}
+use Rattle.script.specs.Choices.{drawn}
+use Rattle.script.specs.Entries.{entry, bit_said, said_by, said_in}
 
 module _ (s : Script) (g r ts : List ℕ) where
   -- a register's bit at the start: as told, else chosen by the seed, else 0
   abbrev pub start_told : ℕ → Bool
-  start_told q = cond (length (vec_items s.start) == 0) (chosen_or s.seed (λ n. odd (drawn_from n 0 q 0)) false) (slice_index_or (vec_items s.start) q false)
+  start_told q = option_map_or (λ bits. slice_index_or (vec_items bits) q false) s.start (option_map_or (λ n. odd (drawn n Start q 0)) s.seed false)
 
   -- the two delays of gate k at moment t: as told last, else chosen by the seed within bounds, else the least
   abbrev pub one_told : (k t : ℕ) → ℕ
-  one_told k t = said_or (said_by (vec_items s.delays) t k) (λ e. e.one) (chosen_or s.seed (λ n. between (drawn_from n 1 k t / 2 ^ 32) (gate_in g k).least_one (gate_in g k).greatest_one) (gate_in g k).least_one)
+  one_told k t = option_map_or (λ e. e.one) (said_by s.delays t k) (option_map_or (λ n. between (drawn n Delay k t / 2 ^ 32) (gate_in g k).least_one (gate_in g k).greatest_one) s.seed (gate_in g k).least_one)
 
   abbrev pub two_told : (k t : ℕ) → ℕ
-  two_told k t = said_or (said_by (vec_items s.delays) t k) (λ e. e.two) (chosen_or s.seed (λ n. between (drawn_from n 1 k t) (gate_in g k).least_two (gate_in g k).greatest_two) (gate_in g k).least_two)
+  two_told k t = option_map_or (λ e. e.two) (said_by s.delays t k) (option_map_or (λ n. between (drawn n Delay k t) (gate_in g k).least_two (gate_in g k).greatest_two) s.seed (gate_in g k).least_two)
 
   -- what register q shows at moment t where it may show anything: as told last, else chosen by the seed, else 0
   abbrev pub show_told : (q t : ℕ) → Bool
-  show_told q t = said_or (said_by (vec_items s.shows) t q) bit_said (chosen_or s.seed (λ n. odd (drawn_from n 2 q t)) false)
+  show_told q t = option_map_or bit_said (said_by s.shows t q) (option_map_or (λ n. odd (drawn n Show q t)) s.seed false)
 
   -- what register q takes at its clock of cycle n where it may take anything: as told, else chosen by the seed, else 0
   abbrev pub take_told : (n q : ℕ) → Bool
-  take_told n q = said_or (said_in (vec_items s.takes) n q) bit_said (chosen_or s.seed (λ k. odd (drawn_from k 4 n q)) false)
+  take_told n q = option_map_or bit_said (said_in s.takes n q) (option_map_or (λ k. odd (drawn k Take n q)) s.seed false)
 
   -- when the clock of cycle n comes to register q, between two moments if it is not told: chosen by the seed, else the first of them
   abbrev pub clock_between : (n q low high : ℕ) → ℕ
-  clock_between n q low high = said_or (said_in (vec_items s.clocks) n q) (λ e. n * period ts + e.one) (chosen_or s.seed (λ k. between (drawn_from k 3 n q) low high) low)
+  clock_between n q low high = option_map_or (λ e. n * period ts + e.one) (said_in s.clocks n q) (option_map_or (λ k. between (drawn k Clock n q) low high) s.seed low)
 
   -- a clock comes within its bounds, and after the one before it
   unfoldable pub clock_told : (n q : ℕ) → ℕ
@@ -76,8 +58,8 @@ module _ (s : Script) (g r ts : List ℕ) where
 
   -- all that is told lies within its bounds
   pub record Fits : Type 0 where
-    pub delays : (i : ℕ) → i < length (vec_items s.delays) → DelayFits (entry (vec_items s.delays) i)
-    pub clocks : (i : ℕ) → i < length (vec_items s.clocks) → ClockFits (entry (vec_items s.clocks) i)
+    pub delays : (i : ℕ) → i < length s.delays → DelayFits (entry s.delays i)
+    pub clocks : (i : ℕ) → i < length s.clocks → ClockFits (entry s.clocks i)
 
 -- what a script tells of which all lies within its bounds may be told, if a period takes time
 abbrev pub MayBeTold : Type 0

@@ -1,6 +1,31 @@
 // Choices made from a number.
 ghost use Rattle.std.specs.Prelude.{◌≡◌, ◌≤◌, max};
 ghost use Rattle.script.specs.Chance.{stirred, drawn_from, between, odd};
+ghost use Rattle.script.specs.Choices.{drawn};
+
+// The kinds of choices, each with its number.
+#[derive(Clone, Copy, PartialEq, Debug)]
+pub enum Choice {
+    // A register's bit at the start.
+    Start = 0,
+    // A gate's two delays at a moment.
+    Delay = 1,
+    // What a register shows at a moment.
+    Show = 2,
+    // When the clock of a cycle comes to a register.
+    Clock = 3,
+    // What a register takes in a cycle.
+    Take = 4,
+}
+
+impl Choice {
+    // The number that belongs to a seed, this kind of choice, and two numbers.
+    pub fn draw(self, seed: u64, a: u64, b: u64) -> u64
+        ensures { result ≡ drawn seed self a b }
+    {
+        draw(seed, self as u64, a, b)
+    }
+}
 
 fn stir(x: u64) -> u64
     ensures { result ≡ stirred x }

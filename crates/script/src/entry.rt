@@ -1,4 +1,6 @@
 // A statement of what is told.
+ghost use Rattle.std.specs.Prelude.{◌≡◌};
+ghost use Rattle.script.specs.Entries.{bit_said};
 
 // On line `line`, counted from 0: from moment `when` on, or in cycle `when`, gate or register `who` has one value or two.
 #[derive(Clone, Copy, PartialEq, Debug)]
@@ -8,4 +10,13 @@ pub struct Entry {
     pub who: u32,
     pub one: u32,
     pub two: u32,
+}
+
+impl Entry {
+    // The bit that it has for a value: 1 is the bit 1.
+    pub fn bit(self) -> bool
+        ensures { result ≡ bit_said self }
+    {
+        self.one == 1
+    }
 }

@@ -2,13 +2,13 @@
 #![tactic(auto)]
 
 pub mod chance;
+mod entries;
 mod entry;
-mod filling;
-mod finding;
 mod kind;
 mod script;
 
+pub use chance::Choice;
+pub use entries::Entries;
 pub use entry::Entry;
-pub use finding::may_be_told;
 pub use kind::Kind;
-pub use script::Script;
+pub use script::{Script, may_be_told};

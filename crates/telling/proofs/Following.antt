@@ -4,7 +4,7 @@ use Rattle.std.proofs.lemmas.List.{get_or-set_same, get_or-set_other, length-set
 use Rattle.std.proofs.lemmas.Bool.{cases_eq}
 use Rattle.script.specs.declared.script.Script.{Script}
 use Rattle.script.specs.Told.{clock_told, take_told}
-use Rattle.clocks.specs.Small.{SmallClock}
+use Rattle.clocks.specs.Benches.{SmallClock}
 use Rattle.telling.specs.Said.{ClocksTold, ClocksGoOn, Followed, FirstTold}
 
 -- three neighbouring numbers are set

@@ -11,7 +11,7 @@ use Rattle.telling.specs.Parts.{DelaysOn, ShowsOn, ClocksOn}
 
 pub delays_on : (s : Script) (g : List ℕ) (t : ℕ) (y y' : Delays) (now : List ℕ) (said : List (Option Entry)) → vec_items y'.now ≡ now → vec_items y'.said ≡ said →
     length now ≡ length (vec_items y.now) → length said ≡ length (vec_items y.said) →
-    KeptOn (vec_items s.delays) t y.done (vec_items y.said) y'.done said → DelaysTold s.seed g t said (gate_count g) now → DelaysOn s g t y y'
+    KeptOn s.delays t y.done (vec_items y.said) y'.done said → DelaysTold s.seed g t said (gate_count g) now → DelaysOn s g t y y'
 delays_on s g t y y' now said ne se nl sl kept told = record {
   sized_still = λ z. record { now_each = rw ne (omega (arith, z.now_each)); said_each = rw se (omega (arith, z.said_each)) };
   knows = λ k. record { done_all = kept.done_now k.done_all; said_all = rw (se, sl) (kept.said_now k.done_all k.said_all) };
@@ -20,7 +20,7 @@ delays_on s g t y y' now said ne se nl sl kept told = record {
 
 pub shows_on : (s : Script) (r : List ℕ) (t : ℕ) (y y' : Shows) (now : List Bool) (said : List (Option Entry)) → vec_items y'.now ≡ now → vec_items y'.said ≡ said →
     length now ≡ length (vec_items y.now) → length said ≡ length (vec_items y.said) →
-    KeptOn (vec_items s.shows) t y.done (vec_items y.said) y'.done said → ShowsTold s.seed t said (length (vec_items y.now)) now → ShowsOn s r t y y'
+    KeptOn s.shows t y.done (vec_items y.said) y'.done said → ShowsTold s.seed t said (length (vec_items y.now)) now → ShowsOn s r t y y'
 shows_on s r t y y' now said ne se nl sl kept told = record {
   sized_still = λ z. record { now_each = rw ne (omega (arith, z.now_each)); said_each = rw (ne, se) (omega (arith, z.said_each)) };
   knows = λ k. record { done_all = kept.done_now k.done_all; said_all = rw (se, sl) (kept.said_now k.done_all k.said_all) };

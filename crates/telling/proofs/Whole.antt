@@ -8,7 +8,8 @@ use Rattle.step.specs.Lent.{TellsGates, TellsRegister}
 use Rattle.script.specs.declared.entry.Entry.{Entry}
 use Rattle.script.specs.declared.script.Script.{Script}
 use Rattle.script.specs.Entries.{entry, last_of, about, due}
-use Rattle.script.specs.Told.{said_by, told_by}
+use Rattle.script.specs.Entries.{said_by}
+use Rattle.script.specs.Told.{told_by}
 use Rattle.script.proofs.Last.{last_rest, last_same}
 use Rattle.telling.specs.declared.teller.Delays.{Delays}
 use Rattle.telling.specs.declared.teller.Shows.{Shows}
@@ -33,8 +34,8 @@ module _ (s : Script) (g r ts : List ℕ) (t : ℕ) where
   gates_told y y' on sized knows =
       let k' = on.knows knows in
       let z' = on.sized_still sized in
-      let at : (k : ℕ) → k < gate_count g → get_or (vec_items y'.said) k None ≡ said_by (vec_items s.delays) t k =
-      λ k h. kept_last (vec_items s.delays) t y'.done _ k (vec_items y'.said) k'.done_all k'.said_all (omega (arith, z'.said_each)) in
+      let at : (k : ℕ) → k < gate_count g → get_or (vec_items y'.said) k None ≡ said_by s.delays t k =
+      λ k h. kept_last s.delays t y'.done _ k (vec_items y'.said) k'.done_all k'.said_all (omega (arith, z'.said_each)) in
       record {
         one = λ k h. let l : k < gate_count g = omega (arith, gates_in_length g) in on.told.one k l ∙ ap (one_of s.seed g k t) (at k l);
         two = λ k h. let l : k < gate_count g = omega (arith, gates_in_length g) in on.told.two k l ∙ ap (two_of s.seed g k t) (at k l);
@@ -49,7 +50,7 @@ module _ (s : Script) (g r ts : List ℕ) (t : ℕ) where
       let c = rw (clocked.stand q h) at (clocked.knows known near q h) in
       record {
         show = shown.told q (omega (arith, sized.now_each))
-            ∙ ap (show_of s.seed q t) (kept_last (vec_items s.shows) t x'.done _ q (vec_items x'.said) k'.done_all k'.said_all (omega (arith, z'.said_each, z'.now_each)));
+            ∙ ap (show_of s.seed q t) (kept_last s.shows t x'.done _ q (vec_items x'.said) k'.done_all k'.said_all (omega (arith, z'.said_each, z'.now_each)));
         clock = c.clock;
         next = c.next;
         after = c.after;

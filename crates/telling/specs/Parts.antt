@@ -1,7 +1,7 @@
 -- What each part of a teller knows and tells.
 use Rattle.std.specs.Prelude.{◌≡◌, ℕ, suc, ◌*◌, ◌<◌, ◌≤◌, ◌⊎◌, List, length, vec_items, slice_index}
 use Rattle.circuit.specs.Lent.{gate_count, register_count}
-use Rattle.clocks.specs.Small.{SmallClock}
+use Rattle.clocks.specs.Benches.{SmallClock}
 use Rattle.script.specs.declared.script.Script.{Script}
 use Rattle.script.specs.Told.{clock_told}
 use Rattle.telling.specs.declared.teller.Delays.{Delays}
@@ -26,12 +26,12 @@ pub record ClocksSized (r : List ℕ) (y : Clocks) : Type 0 where
 
 -- all that a script says of the moments before t is kept
 pub record DelaysKnow (s : Script) (t : ℕ) (y : Delays) : Type 0 where
-  pub done_all : DoneBefore (vec_items s.delays) t y.done
-  pub said_all : Said (vec_items s.delays) y.done (length (vec_items y.said)) (vec_items y.said)
+  pub done_all : DoneBefore s.delays t y.done
+  pub said_all : Said s.delays y.done (length (vec_items y.said)) (vec_items y.said)
 
 pub record ShowsKnow (s : Script) (t : ℕ) (y : Shows) : Type 0 where
-  pub done_all : DoneBefore (vec_items s.shows) t y.done
-  pub said_all : Said (vec_items s.shows) y.done (length (vec_items y.said)) (vec_items y.said)
+  pub done_all : DoneBefore s.shows t y.done
+  pub said_all : Said s.shows y.done (length (vec_items y.said)) (vec_items y.said)
 
 -- each register's clocks are told for the cycle in which it stood
 abbrev pub ClocksKnow : (s : Script) (g r ts : List ℕ) → Clocks → Type 0

@@ -1,12 +1,15 @@
 -- What is told up to a moment, as it is kept.
 use Rattle.std.specs.Prelude.{◌≡◌, ℕ, suc, ◌+◌, ◌*◌, ◌/◌, ◌^◌, ◌<◌, ◌≤◌, Bool, false, ◌⊎◌, List, length, None, Option, ◌≢◌, slice_index, slice_index_or}
+use Rattle.std.specs.Option.{option_map_or}
 use Rattle.circuit.specs.Lent.{gate_in}
-use Rattle.clocks.specs.Small.{SmallClock}
+use Rattle.clocks.specs.Benches.{SmallClock}
 use Rattle.script.specs.declared.entry.Entry.{Entry}
 use Rattle.script.specs.declared.script.Script.{Script}
-use Rattle.script.specs.Chance.{drawn_from, between, odd}
-use Rattle.script.specs.Entries.{entry, last_of, about}
-use Rattle.script.specs.Told.{said_or, chosen_or, bit_said, clock_told, take_told}
+use Rattle.script.specs.declared.chance.Choice.TheVariants.{Delay, Show}
+use Rattle.script.specs.Chance.{between, odd}
+use Rattle.script.specs.Choices.{drawn}
+use Rattle.script.specs.Entries.{entry, bit_said, last_of, about}
+use Rattle.script.specs.Told.{clock_told, take_told}
 
 -- the first i statements are those of the moments before t
 pub record DoneBefore (es : List Entry) (t i : ℕ) : Type 0 where
@@ -25,14 +28,14 @@ pub record KeptOn (es : List Entry) (t done : ℕ) (before : List (Option Entry)
 
 -- a gate's two delays by what is said of it, at moment t
 abbrev pub one_of : Option ℕ → (g : List ℕ) (k t : ℕ) → Option Entry → ℕ
-one_of seed g k t said = said_or said (λ e. e.one) (chosen_or seed (λ n. between (drawn_from n 1 k t / 2 ^ 32) (gate_in g k).least_one (gate_in g k).greatest_one) (gate_in g k).least_one)
+one_of seed g k t said = option_map_or (λ e. e.one) said (option_map_or (λ n. between (drawn n Delay k t / 2 ^ 32) (gate_in g k).least_one (gate_in g k).greatest_one) seed (gate_in g k).least_one)
 
 abbrev pub two_of : Option ℕ → (g : List ℕ) (k t : ℕ) → Option Entry → ℕ
-two_of seed g k t said = said_or said (λ e. e.two) (chosen_or seed (λ n. between (drawn_from n 1 k t) (gate_in g k).least_two (gate_in g k).greatest_two) (gate_in g k).least_two)
+two_of seed g k t said = option_map_or (λ e. e.two) said (option_map_or (λ n. between (drawn n Delay k t) (gate_in g k).least_two (gate_in g k).greatest_two) seed (gate_in g k).least_two)
 
 -- what a register shows by what is said of it, at moment t
 abbrev pub show_of : Option ℕ → (q t : ℕ) → Option Entry → Bool
-show_of seed q t said = said_or said bit_said (chosen_or seed (λ n. odd (drawn_from n 2 q t)) false)
+show_of seed q t said = option_map_or bit_said said (option_map_or (λ n. odd (drawn n Show q t)) seed false)
 
 -- the delays of the first i gates
 pub record DelaysTold (seed : Option ℕ) (g : List ℕ) (t : ℕ) (said : List (Option Entry)) (i : ℕ) (delays : List ℕ) : Type 0 where

@@ -5,7 +5,7 @@ ghost use Rattle.script.specs.Entries.{Ordered};
 ghost use Rattle.telling.specs.Said.{KeptOn, one_of, two_of, show_of, DelaysTold, ShowsTold};
 
 use circuit::Circuit;
-use script::{Entry, chance};
+use script::{Choice, Entry, chance};
 
 // Keeps the statements of moment `t`, those before it being kept, for each gate or register that has a place; how many
 // are kept then.
@@ -36,7 +36,7 @@ fn delays_of(gates: &[u32], k: usize, seed: Option<u64>, t: u64, said: Option<En
         Some(e) => (e.one, e.two),
         None => match seed {
             Some(n) => {
-                let h = chance::draw(n, 1, k as u64, t);
+                let h = Choice::Delay.draw(n, k as u64, t);
                 let one = chance::between(h >> 32, gates[g + 3] as u64, gates[g + 4] as u64);
                 let two = chance::between(h, gates[g + 5] as u64, gates[g + 6] as u64);
                 (one as u32, two as u32)
@@ -69,13 +69,8 @@ pub(crate) fn fill_delays(
 fn show_of(r: usize, seed: Option<u64>, t: u64, said: Option<Entry>) -> bool
     ensures { result ≡ show_of seed r t said }
 {
-    match said {
-        Some(e) => e.one == 1,
-        None => match seed {
-            Some(n) => chance::odd(chance::draw(n, 2, r as u64, t)),
-            None => false,
-        },
-    }
+    let chosen = seed.map(|seed| chance::odd(Choice::Show.draw(seed, r as u64, t)));
+    said.map(Entry::bit).or(chosen).unwrap_or(false)
 }
 
 // What all registers show at moment `t` where they may show anything.

@@ -15,7 +15,7 @@ impl Delays {
         requires { DelaysSized circuit.gates.now self.now }
         ensures { DelaysOn script.now circuit.entry.gates.now t self.entry.now self.exit.now }
     {
-        self.done = keep_said(&script.delays, t, self.done, &mut self.said);
+        self.done = keep_said(script.delays.as_slice(), t, self.done, &mut self.said);
         fill_delays(circuit, script.seed, t, &self.said, &mut self.now);
     }
 }
@@ -26,7 +26,7 @@ impl Shows {
         requires { ShowsSized circuit.registers.now self.now }
         ensures { ShowsOn script.now circuit.entry.registers.now t self.entry.now self.exit.now }
     {
-        self.done = keep_said(&script.shows, t, self.done, &mut self.said);
+        self.done = keep_said(script.shows.as_slice(), t, self.done, &mut self.said);
         fill_shows(script.seed, t, &self.said, &mut self.now);
     }
 }

@@ -4,7 +4,7 @@ ghost use Rattle.circuit.specs.Lent.{register_count};
 ghost use Rattle.telling.specs.Said.{ClocksGoOn, Followed, FirstTold};
 
 use circuit::Circuit;
-use clocks::{first_clock, next_clock, take_of};
+use clocks::{Bench, take_of};
 use script::Script;
 
 // Register `r` has come to cycle `n`: its clocks of this cycle and the next two, and what it takes in the next.
@@ -21,11 +21,12 @@ fn go_on(
     requires takes { register_count circuit.registers.now ≤ length takes.old }
     ensures { ClocksGoOn script.now circuit.entry.gates.now circuit.entry.registers.now circuit.entry.times.now r n clocks.old clocks.new takes.old takes.new }
 {
+    let bench = Bench { circuit, script };
     let at = 3 * r;
     let last = clocks[at + 2];
     clocks[at] = clocks[at + 1];
     clocks[at + 1] = last;
-    clocks[at + 2] = next_clock(script, circuit, n.saturating_add(2), r, last);
+    clocks[at + 2] = bench.next_clock(n.saturating_add(2), r, last);
     takes[r] = take_of(script, n.saturating_add(1), r);
 }
 
@@ -59,12 +60,13 @@ pub(crate) fn begin(script: &Script, circuit: Circuit<'_>, clocks: &mut [u64], t
     requires takes { register_count circuit.registers.now ≤ length takes.old }
     ensures { FirstTold script.now circuit.entry.gates.now circuit.entry.registers.now circuit.entry.times.now (register_count circuit.entry.registers.now) clocks.new takes.new }
 {
+    let bench = Bench { circuit, script };
     for r in 0..circuit.registers.len() / 3 {
-        let first = first_clock(script, circuit, r);
-        let second = next_clock(script, circuit, 1, r, first);
+        let first = bench.first_clock(r);
+        let second = bench.next_clock(1, r, first);
         clocks[3 * r] = first;
         clocks[3 * r + 1] = second;
-        clocks[3 * r + 2] = next_clock(script, circuit, 2, r, second);
+        clocks[3 * r + 2] = bench.next_clock(2, r, second);
         takes[r] = take_of(script, 1, r);
     }
 }

@@ -13,7 +13,7 @@ use Rattle.step.specs.Lent.{TooFew}
 use Rattle.step.specs.Stands.{Ready, Steps, Given}
 use Rattle.step.proofs.Remembering.{wide_same}
 use Rattle.step.proofs.Going.{at_most_next}
-use Rattle.clocks.specs.Small.{SmallClock}
+use Rattle.clocks.specs.Benches.{SmallClock}
 use Rattle.script.specs.declared.script.Script.{Script}
 use Rattle.script.specs.Told.{told_by, clock_told}
 use Rattle.script.proofs.Telling.{may_be_told}

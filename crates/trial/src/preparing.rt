@@ -10,9 +10,10 @@ ghost use Rattle.trial.specs.Stopped.{Timeless, Stopped};
 use crate::room::Room;
 use crate::stop::Stop;
 use circuit::Circuit;
+use clocks::Bench;
 use fitting::{Unfit, fits};
 use history::History;
-use script::{Script, chance};
+use script::{Choice, Script, chance};
 use std::alloc::{AllocError, Global};
 use telling::Teller;
 
@@ -56,13 +57,14 @@ fn earliest_clock(circuit: Circuit<'_>, latest: u32) -> u32
 fn start_of(script: &Script, r: usize) -> bool
     ensures { (g rs ts : List ℕ) → result ≡ start_told script.now g rs ts r }
 {
-    if script.start.is_empty() {
-        return match script.seed {
-            Some(n) => chance::odd(chance::draw(n, 0, r as u64, 0)),
-            None => false,
-        };
-    }
-    r < script.start.len() && script.start[r]
+    let told = script
+        .start
+        .as_ref()
+        .map(|bits| bits.get(r).copied().unwrap_or(false));
+    let chosen = script
+        .seed
+        .map(|seed| chance::odd(Choice::Start.draw(seed, r as u64, 0)));
+    told.or(chosen).unwrap_or(false)
 }
 
 // The bits of the first cycle.
@@ -139,7 +141,7 @@ pub fn prepare(heap: Global, circuit: Circuit<'_>, script: &Script) -> Result<Ro
         (λ y. Standing script.now circuit.entry.gates.now circuit.entry.registers.now circuit.entry.times.now 0 y)
         (λ e. Stopped script.now circuit.entry.gates.now circuit.entry.registers.now circuit.entry.times.now e) }
 {
-    fits(circuit, script)?;
+    fits(Bench { circuit, script })?;
     look_at_times(circuit)?;
     Ok(room_for(heap, circuit, script)?)
 }

@@ -16,8 +16,7 @@ fn counter_by_a_seed(rt: HostRuntime) -> Result<(), Fail> {
     let mut script = Script::new(rt.alloc());
     script.cycles = 9;
     script.seed = Some(7);
-    script.start.push(false)?;
-    script.start.push(false)?;
+    script.start = Some(vec![in rt.alloc(); false; 2]?);
     let mut gone = 0;
     let mut bits = [false; 2];
     if let Ok(room) = prepare(rt.alloc(), c, &script) {

@@ -1,6 +1,15 @@
+use Rattle.std.proofs.Common.{not, ap, ◌∙◌, rules}
+use borrow.Author.Tests.{tests}
 use Rattle.fitting.specs.Misfit.{ClockWithin}
-use Rattle.fitting.proofs.Firsts.{one_more}
+use Rattle.fitting.specs.Misfit.{first_line, clock_passes}
+use Rattle.fitting.proofs.Firsts.{first_of_least}
+use Rattle.fitting.proofs.Tests.{clock_decides}
 use Rattle.fitting.proofs.misfit_clock.Goals as goal
 
-pub loop-i-preserved : goal.loop-i-preserved
-loop-i-preserved c = one_more (ClockWithin c.args.circuit.registers.now) _ c.loop-i.i c.loop-i.first _ c.clock_within-fits.result c.noted-first.ensures c.clock_within-fits.ensures.yes c.clock_within-fits.ensures.not c.loop-i.invariant
+pub returns : goal.returns
+returns c =
+    let k = c.args.bench.circuit in
+    let s = c.args.bench.script.now in
+    let r = k.registers.now in
+    first_of_least (ClockWithin r) (clock_passes r) (clock_decides r) s.clocks c.first_line.result
+    (c.first_line.ensures (λ e. not (clock_passes r e)) (λ x b q k. (search (rules, tests), search (rules, tests))) ∙ ap (first_line (λ e. not (clock_passes r e))) c.as_slice.ensures.items)

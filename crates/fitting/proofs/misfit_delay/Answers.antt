@@ -1,9 +1,15 @@
+use Rattle.std.proofs.Common.{not, ap, ◌∙◌, rules}
+use borrow.Author.Tests.{tests}
 use Rattle.script.specs.Told.{DelayFits}
-use Rattle.fitting.proofs.Firsts.{one_more}
+use Rattle.fitting.specs.Misfit.{first_line, delay_passes}
+use Rattle.fitting.proofs.Firsts.{first_of_least}
+use Rattle.fitting.proofs.Tests.{delay_decides}
 use Rattle.fitting.proofs.misfit_delay.Goals as goal
 
-pub loop-i-preserved : goal.loop-i-preserved
-loop-i-preserved c =
-    let k = c.args.circuit in
-    one_more (DelayFits c.args.script.now k.gates.now k.registers.now k.times.now) _ c.loop-i.i c.loop-i.first _ c.delay_fits-fits.result c.noted-first.ensures (λ e. c.delay_fits-fits.ensures.yes c.args.script.now k.registers.now k.times.now e)
-    (λ e. c.delay_fits-fits.ensures.not c.args.script.now k.registers.now k.times.now e) c.loop-i.invariant
+pub returns : goal.returns
+returns c =
+    let k = c.args.bench.circuit in
+    let s = c.args.bench.script.now in
+    let r = k.registers.now in
+    first_of_least (DelayFits s k.gates.now k.registers.now k.times.now) (delay_passes k.gates.now) (delay_decides s k.gates.now k.registers.now k.times.now) s.delays c.first_line.result
+    (c.first_line.ensures (λ e. not (delay_passes k.gates.now e)) (λ x b q k. (search (rules, tests), search (rules, tests))) ∙ ap (first_line (λ e. not (delay_passes k.gates.now e))) c.as_slice.ensures.items)

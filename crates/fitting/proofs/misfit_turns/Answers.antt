@@ -4,12 +4,12 @@ use Rattle.fitting.proofs.Together.{turns_none, turns_more}
 use Rattle.fitting.proofs.misfit_turns.Goals as goal
 
 pub loop-r-init : goal.loop-r-init
-loop-r-init c = turns_none c.args.script.now c.args.circuit.gates.now c.args.circuit.registers.now c.args.circuit.times.now
+loop-r-init c = turns_none c.args.bench.script.now c.args.bench.circuit.gates.now c.args.bench.circuit.registers.now c.args.bench.circuit.times.now
 
 pub loop-r-preserved : goal.loop-r-preserved
 loop-r-preserved c =
-    let k = c.args.circuit in
-    turns_more c.args.script.now k.gates.now k.registers.now k.times.now c.loop-r.r _ _ _ c.earlier-first.ensures c.loop-r.invariant c.misfit_turn.ensures
+    let k = c.args.bench.circuit in
+    turns_more c.args.bench.script.now k.gates.now k.registers.now k.times.now c.loop-r.r _ _ _ c.earlier-first.ensures c.loop-r.invariant c.misfit_turn.ensures
 
 pub returns : goal.returns
-returns c = let e : c.loop-r.r ≡ register_count c.args.circuit.registers.now = omega arith in rw e at c.loop-r.invariant
+returns c = let e : c.loop-r.r ≡ register_count c.args.bench.circuit.registers.now = omega arith in rw e at c.loop-r.invariant

@@ -6,7 +6,7 @@ use Rattle.fitting.proofs.walk.Goals as goal
 
 pub loop-n-preserved : goal.loop-n-preserved
 loop-n-preserved c =
-    let k = c.args.circuit in
+    let k = c.args.bench.circuit in
     let p = small_times k.gates.now k.registers.now k.times.now k.small 0 in
     let far = mul-le (c.loop-n.n + 1) (period k.times.now) (2 ^ 32) 1000000 (omega arith) p in
     let b = c.next_clock-c.ensures.bound in

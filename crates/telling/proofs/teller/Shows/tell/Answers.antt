@@ -8,5 +8,5 @@ returns c =
     let y = c.args.self.now in
     let now = with_items_is y.now c.fill_shows.new.shows (omega arith) in
     let said = with_items_is y.said c.keep_said-self.new.said (omega arith) in
-    shows_on _ _ _ y _ _ _ now said (omega arith) (omega arith) (rw (c.deref.ensures.value, c.deref_mut.ensures.value) at c.keep_said-self.ensures)
-    (rw (c.deref-2.ensures.value ∙ said, c.deref_mut-2.ensures.value) at c.fill_shows.ensures)
+    shows_on _ _ _ y _ _ _ now said (omega arith) (omega arith) (rw (c.as_slice.ensures.items, c.deref_mut.ensures.value) at c.keep_said-self.ensures)
+    (rw (c.deref.ensures.value ∙ said, c.deref_mut-2.ensures.value) at c.fill_shows.ensures)
