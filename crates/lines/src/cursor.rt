@@ -40,40 +40,37 @@ impl<'a> Iterator for Words<'a> {
 }
 
 // The lines of a text that are still to come, each with its number.
-#[derive(Clone, Copy)]
+#[derive(Drop)]
 pub struct Lines<'a> {
     // The number of the next line.
     pub number: usize,
-    pub rest: &'a [u8],
-    ghost within: { number + length rest.now < 2 ^ 64 },
+    pub text: &'a [u8],
+    ghost within: { number + length text.now < 2 ^ 64 },
 }
 
 impl<'a> Lines<'a> {
     // Lines are counted from 1.
     pub fn new(text: &'a [u8]) -> Self
-        ensures { (result.number ≡ 1) × (result.rest.now ≡ text.now) }
+        ensures { (result.number ≡ 1) × (result.text.now ≡ text.now) }
     {
-        Lines {
-            number: 1,
-            rest: text,
-        }
+        Lines { number: 1, text }
     }
 }
 
 impl<'a> Iterator for Lines<'a> {
     type Item = (usize, &'a [u8]);
 
-    ghost next_gives = { λ s r t. NextLine s.rest.now s.number r t.rest.now t.number };
+    ghost next_gives = { λ s r t. NextLine s.text.now s.number r t.text.now t.number };
 
-    ghost remaining = { λ s. at_most (length s.rest.now) };
+    ghost remaining = { λ s. at_most (length s.text.now) };
 
     #[tactic(auto, unfolding(crate::specs::Words::lines))]
     fn next(&mut self) -> Option<(usize, &'a [u8])> {
-        let (line, rest) = crate::line(self.rest)?;
+        let (line, text) = crate::line(self.text)?;
         let number = self.number;
         *self = Lines {
             number: number + 1,
-            rest,
+            text,
         };
         Some((number, line))
     }
