@@ -1,11 +1,11 @@
 -- Laws of `fields`.
-use Rattle.std.proofs.Common.{◌≡◌, ℕ, suc, ◌+◌, ◌-◌, ◌<◌, ◌≤◌, false, eqb, List, [], ◌∷◌, ◌++◌, length, take, set, Some, None, Ok, Err, Option, Result, sym, refl, ap, ◌∙◌, arith}
+use Rattle.std.proofs.Common.{◌≡◌, ℕ, suc, ◌+◌, ◌-◌, ◌<◌, ◌≤◌, false, List, [], ◌∷◌, ◌++◌, length, take, set, Some, None, Ok, Err, Option, Result, sym, refl, ap, ◌∙◌, arith}
 use Rattle.std.proofs.lemmas.List.{take_more_set, take_all, length-set}
 use Rattle.lines.specs.declared.Unread.{Unread}
 use Rattle.lines.specs.declared.Unread.TheVariants.{NoDigit, TooLarge}
 use Rattle.lines.specs.Numbers.{number}
 use Rattle.fields.specs.declared.fault.Expected.{Expected}
-use Rattle.fields.specs.Fields.{field, wanted, also, fields}
+use Rattle.fields.specs.Fields.{field, wanted, also, may_be_table, fields}
 
 -- where no table may stand
 pub number_field : (w : List ℕ) (x : ℕ) → number w ≡ Ok x → field false w ≡ Ok x
@@ -39,15 +39,15 @@ alsos_push [] x r = refl
 alsos_push (y ∷ xs) x r = rw (alsos_push xs x r)
 
 -- the first i of n fields of the words ws are in out, and rest has the words after them
-pub record Filled (ws : List (List ℕ)) (c n i : ℕ) (out : List ℕ) (rest : List (List ℕ)) : Type 0 where
+pub record Filled (ws : List (List ℕ)) (c : Option ℕ) (n i : ℕ) (out : List ℕ) (rest : List (List ℕ)) : Type 0 where
   pub within : i ≤ n
   pub long : length out ≡ n
   pub same : fields c 0 n ws ≡ alsos (take i out) (fields c i (n - i) rest)
 
-pub none_yet : (ws : List (List ℕ)) (c n : ℕ) (out : List ℕ) → length out ≡ n → Filled ws c n 0 out ws
+pub none_yet : (ws : List (List ℕ)) (c : Option ℕ) (n : ℕ) (out : List ℕ) → length out ≡ n → Filled ws c n 0 out ws
 none_yet ws c n out l = let e : n - 0 ≡ n = omega arith in record { within = omega arith; long = l; same = sym (ap (λ k. fields c 0 k ws) e) }
 
-module _ {ws rest : List (List ℕ)} {out : List ℕ} {c n i : ℕ} (f : Filled ws c n i out rest) where
+module _ {ws rest : List (List ℕ)} {out : List ℕ} {c : Option ℕ} {n i : ℕ} (f : Filled ws c n i out rest) where
   pub too_few : i < n → rest ≡ [] → fields c 0 n ws ≡ Ok None
   unfolding fields
   too_few lt none =
@@ -68,13 +68,13 @@ module _ {ws rest : List (List ℕ)} {out : List ℕ} {c n i : ℕ} (f : Filled 
         let e : n - i ≡ 0 = omega (arith, eq) in
         f.same ∙ rw (e, some) (alsos_none (take i out))
 
-    pub bad : (k : Expected) → i < n → field (eqb i c) w ≡ Err k → fields c 0 n ws ≡ Err k
+    pub bad : (k : Expected) → i < n → field (may_be_table c i) w ≡ Err k → fields c 0 n ws ≡ Err k
     unfolding fields
     bad k lt q =
         let e : n - i ≡ suc (n - (i + 1)) = omega (arith, lt) in
         f.same ∙ rw (e, some, q) (alsos_err (take i out) k)
 
-    pub next : (x : ℕ) → i < n → field (eqb i c) w ≡ Ok x → Filled ws c n (i + 1) (set out i x) after
+    pub next : (x : ℕ) → i < n → field (may_be_table c i) w ≡ Ok x → Filled ws c n (i + 1) (set out i x) after
     unfolding fields
     next x lt q =
         let e : n - i ≡ suc (n - (i + 1)) = omega (arith, lt) in

@@ -1,5 +1,6 @@
 -- The fields of a line: numbers, and a table by its name.
 use Rattle.std.specs.Prelude.{ℕ, zero, suc, ◌+◌, Bool, cond, List, [], ◌∷◌, map, position, Some, None, Ok, Err, Option, Result, ◌==◌}
+use Rattle.std.specs.Option.{option_eq}
 use Rattle.std.specs.Str.{bytes_eq}
 use Rattle.circuit.specs.Gate.{tables}
 use Rattle.lines.specs.Numbers.{number}
@@ -38,10 +39,14 @@ also (Ok x) (Err e) = Err e
 also (Ok x) (Ok None) = Ok None
 also (Ok x) (Ok (Some xs)) = Ok (Some (x ∷ xs))
 
+-- whether column i is the one where a table may stand
+abbrev pub may_be_table : Option ℕ → ℕ → Bool
+may_be_table c i = option_eq (λ a b. a == b) c (Some i)
+
 -- just n numbers, of which the first is in column i and a table may stand in column c; None where there are fewer or more.
 -- Words are looked at from left to right, and no further than the first fault or one word too many
-unfoldable pub fields : (c i n : ℕ) → List (List ℕ) → Result (Option (List ℕ)) Expected
+unfoldable pub fields : (c : Option ℕ) (i n : ℕ) → List (List ℕ) → Result (Option (List ℕ)) Expected
 fields c i zero [] = Ok (Some [])
 fields c i zero (w ∷ ws) = Ok None
 fields c i (suc n) [] = Ok None
-fields c i (suc n) (w ∷ ws) = also (field (i == c) w) (fields c (i + 1) n ws)
+fields c i (suc n) (w ∷ ws) = also (field (may_be_table c i) w) (fields c (i + 1) n ws)

@@ -69,8 +69,12 @@ fn table(word: &[u8]) -> Result<u32, Expected>
     }
 }
 
-// The numbers of a line that has just N, and None where it has fewer or more. In column `table_at` a table's name may stand.
-pub fn read<const N: usize>(line: &[u8], table_at: usize) -> Result<Option<[u32; N]>, Expected>
+// The numbers of a line that has just N, and None where it has fewer or more. In column `table_at`, if there
+// is one, a table's name may stand.
+pub fn read<const N: usize>(
+    line: &[u8],
+    table_at: Option<usize>,
+) -> Result<Option<[u32; N]>, Expected>
     ensures { result ≡ fields table_at 0 N (words line.now) }
 {
     let mut numbers = [0; N];
@@ -79,7 +83,7 @@ pub fn read<const N: usize>(line: &[u8], table_at: usize) -> Result<Option<[u32;
         let Some(word) = words.next() else {
             return Ok(None);
         };
-        *number = if i == table_at {
+        *number = if table_at == Some(i) {
             table(word)?
         } else {
             lines::value(word)?

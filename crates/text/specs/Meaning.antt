@@ -72,9 +72,9 @@ ending d (w ∷ ws) = Err Nothing
 
 -- what line n makes of a circuit, by its keyword and its other words
 abbrev pub said : Option Keyword → ℕ → Drafted → List (List ℕ) → Result (Progress × Drafted) Expected
-said (Some Gate) n d ws = row (with_gates d) d.gates d.miscount GateNumbers n (fields 2 0 7 ws)
-said (Some Register) n d ws = row (with_registers d) d.registers d.miscount RegisterNumbers n (fields 3 0 3 ws)
-said (Some Times) n d ws = row (with_times d) d.times d.miscount TimeNumbers n (fields 5 0 5 ws)
+said (Some Gate) n d ws = row (with_gates d) d.gates d.miscount GateNumbers n (fields (Some 2) 0 7 ws)
+said (Some Register) n d ws = row (with_registers d) d.registers d.miscount RegisterNumbers n (fields None 0 3 ws)
+said (Some Times) n d ws = row (with_times d) d.times d.miscount TimeNumbers n (fields None 0 5 ws)
 said (Some End) n d ws = ending d ws
 said (Some Circuit) n d ws = Err Statement
 said None n d ws = Err Statement

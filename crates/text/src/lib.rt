@@ -44,27 +44,27 @@ fn note(miscount: Option<Miscount>, refusal: Refusal, line: usize) -> Option<Mis
     }
 }
 
-// What the lines of a part have: the refusal if their numbers are too few or too many, and the column where a table may
-// stand, past the last one where none may.
+// What the lines of a part have: the refusal if their numbers are too few or too many, and the column, if any, where a
+// table may stand.
 #[derive(Clone, Copy)]
 struct Row {
     refusal: Refusal,
-    table_at: usize,
+    table_at: Option<usize>,
 }
 
 const GATE: Row = Row {
     refusal: Refusal::GateNumbers,
-    table_at: 2,
+    table_at: Some(2),
 };
 
 const REGISTER: Row = Row {
     refusal: Refusal::RegisterNumbers,
-    table_at: 3,
+    table_at: None,
 };
 
 const TIMES: Row = Row {
     refusal: Refusal::TimeNumbers,
-    table_at: 5,
+    table_at: None,
 };
 
 // The N numbers of a line added to their part, or the line kept as a miscounted one.
