@@ -39,7 +39,8 @@ impl<'a> Iterator for Words<'a> {
     }
 }
 
-// The lines of a text that are still to come, each with its number.
+// The lines of a text that are still to come, each with its number. `split` would give one more, empty, where a newline
+// ends the text.
 #[derive(Drop)]
 pub struct Lines<'a> {
     // The number of the next line.

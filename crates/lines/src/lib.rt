@@ -32,7 +32,7 @@ pub enum Unread {
     TooLarge,
 }
 
-// Whether two words are the same: the `==` of slices, under a name for closures and contracts of other crates.
+// Whether two words are the same: the `==` of slices, by the name under which a contract can cite it.
 pub fn same(w: &[u8], v: &[u8]) -> bool
     ensures { result ≡ bytes_eq w.now v.now }
 {
@@ -111,7 +111,7 @@ pub fn word(s: &[u8]) -> Option<(&[u8], &[u8])>
     }
 }
 
-// The number that a word is.
+// The number that a word is: digits alone, where `str::parse` takes a sign too.
 pub fn value(word: &[u8]) -> Result<u32, Unread>
     ensures { result ≡ number word.now }
 {
@@ -123,6 +123,7 @@ pub fn value(word: &[u8]) -> Result<u32, Unread>
         if !b.is_ascii_digit() {
             return Err(Unread::NoDigit);
         }
+        // Past the limit the rest is still looked at, since a word with another byte is no number at all.
         n = (n * 10 + u64::from(*b - b'0')).min(LIMIT);
     }
     u32::try_from(n).map_err(|_| Unread::TooLarge)

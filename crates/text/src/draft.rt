@@ -19,9 +19,9 @@ pub struct Miscount {
     pub line: usize,
 }
 
-// A circuit's name, empty where it has none, the line where it began, and its numbers in the order of their lines. Of
-// the lines that have another count of numbers than they should, the first of the gates is kept, else of the registers,
-// else of the times.
+// A circuit's name, empty where it has none (a word is never empty, so an Option would say no more), the line where it
+// began, and its numbers in the order of their lines. Of the lines that have another count of numbers than they should,
+// the first of the gates is kept, else of the registers, else of the times.
 #[derive(Drop)]
 pub struct Draft {
     pub name: Vec<u8>,
