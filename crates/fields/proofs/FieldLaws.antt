@@ -1,10 +1,21 @@
 -- Laws of `fields`.
-use Rattle.std.proofs.Common.{◌≡◌, ℕ, suc, ◌+◌, ◌-◌, ◌<◌, ◌≤◌, Bool, true, false, cond, eqb, List, [], ◌∷◌, ◌++◌, length, take, set, Some, None, Ok, Err, Option, Result, sym, refl, ap, ◌∙◌, inl, inr, arith}
+use Rattle.std.proofs.Common.{◌≡◌, ℕ, suc, ◌+◌, ◌-◌, ◌<◌, ◌≤◌, false, List, [], ◌∷◌, ◌++◌, length, take, set, Some, None, Ok, Err, Option, Result, sym, refl, ap, ◌∙◌, arith}
 use Rattle.std.proofs.lemmas.List.{take_more_set, take_all, length-set}
-use Rattle.std.proofs.lemmas.Bool.{cases_lt, eqb-true, eqb-false}
-use Rattle.lines.specs.Words.{words, FirstWord}
+use Rattle.lines.specs.declared.Unread.{Unread}
+use Rattle.lines.specs.declared.Unread.TheVariants.{NoDigit, TooLarge}
+use Rattle.lines.specs.Numbers.{number}
 use Rattle.fields.specs.declared.fault.Expected.{Expected}
-use Rattle.fields.specs.Fields.{field, also, fields}
+use Rattle.fields.specs.Fields.{field, wanted, also, may_be_table, fields}
+
+-- where no table may stand
+pub number_field : (w : List ℕ) (x : ℕ) → number w ≡ Ok x → field false w ≡ Ok x
+unfolding field
+number_field w x e = rw e
+
+pub no_number : (w : List ℕ) (u : Unread) → number w ≡ Err u → field false w ≡ Err (wanted u)
+unfolding field
+no_number w NoDigit e = rw e
+no_number w TooLarge e = rw e
 
 -- values before others
 abbrev alsos : List ℕ → Result (Option (List ℕ)) Expected → Result (Option (List ℕ)) Expected
@@ -27,52 +38,49 @@ alsos_push : (xs : List ℕ) (x : ℕ) (r : Result (Option (List ℕ)) Expected)
 alsos_push [] x r = refl
 alsos_push (y ∷ xs) x r = rw (alsos_push xs x r)
 
--- the first i of n fields of the line s are in out, and rest has the others
-pub record Filled (s : List ℕ) (c n i : ℕ) (out rest : List ℕ) : Type 0 where
+-- the first i of n fields of the words ws are in out, and rest has the words after them
+pub record Filled (ws : List (List ℕ)) (c : Option ℕ) (n i : ℕ) (out : List ℕ) (rest : List (List ℕ)) : Type 0 where
   pub within : i ≤ n
   pub long : length out ≡ n
-  pub same : fields c 0 n (words s) ≡ alsos (take i out) (fields c i (n - i) (words rest))
+  pub same : fields c 0 n ws ≡ alsos (take i out) (fields c i (n - i) rest)
 
-pub none_yet : (s : List ℕ) (c : ℕ) (out : List ℕ) → Filled s c (length out) 0 out s
-none_yet s c out = let e : length out - 0 ≡ length out = omega arith in record { within = omega arith; long = refl; same = sym (ap (λ k. fields c 0 k (words s)) e) }
+pub none_yet : (ws : List (List ℕ)) (c : Option ℕ) (n : ℕ) (out : List ℕ) → length out ≡ n → Filled ws c n 0 out ws
+none_yet ws c n out l = let e : n - 0 ≡ n = omega arith in record { within = omega arith; long = l; same = sym (ap (λ k. fields c 0 k ws) e) }
 
-module _ {s out rest w after : List ℕ} {c n i : ℕ} (f : Filled s c n i out rest) (cut : FirstWord rest w after) where
-  pub too_few : i < n → length w ≡ 0 → fields c 0 (length out) (words s) ≡ Ok None
+module _ {ws rest : List (List ℕ)} {out : List ℕ} {c : Option ℕ} {n i : ℕ} (f : Filled ws c n i out rest) where
+  pub too_few : i < n → rest ≡ [] → fields c 0 n ws ≡ Ok None
   unfolding fields
-  too_few lt z =
+  too_few lt none =
       let e : n - i ≡ suc (n - (i + 1)) = omega (arith, lt) in
-      rw f.long (f.same ∙ rw (e, cut.none z) (alsos_none (take i out)))
+      f.same ∙ rw (e, none) (alsos_none (take i out))
 
-  too_many : i ≡ n → 0 < length w → fields c 0 (length out) (words s) ≡ Ok None
+  pub all_there : i ≡ n → rest ≡ [] → fields c 0 n ws ≡ Ok (Some out)
   unfolding fields
-  too_many eq p =
-      let e : n - i ≡ 0 = omega (arith, eq) in
-      rw f.long (f.same ∙ rw (e, cut.some p) (alsos_none (take i out)))
-
-  all_there : i ≡ n → length w ≡ 0 → fields c 0 (length out) (words s) ≡ Ok (Some out)
-  unfolding fields
-  all_there eq z =
+  all_there eq none =
       let e : n - i ≡ 0 = omega (arith, eq) in
       let l : length out ≤ i = omega (arith, eq, f.long) in
-      rw f.long (f.same ∙ rw (e, cut.none z) (alsos_ok (take i out) ∙ ap (λ xs. Ok (Some xs)) (take_all i out l)))
+      f.same ∙ rw (e, none) (alsos_ok (take i out) ∙ ap (λ xs. Ok (Some xs)) (take_all i out l))
 
-  pub at_end : i ≡ n → (b : Bool) → b ≡ eqb (length w) 0 → fields c 0 (length out) (words s) ≡ Ok (cond b (Some out) None)
-  at_end eq true e = all_there eq (eqb-true (length w) 0 (sym e))
-  at_end eq false e = too_many eq (let ne : length w ≡ 0 → ⊥ = eqb-false (length w) 0 (sym e) in elim (cases_lt 0 (length w)) [ inl p ↦ p | inr z ↦ absurd (ne (omega arith)) ])
+  module _ {after : List (List ℕ)} {w : List ℕ} (some : rest ≡ w ∷ after) where
+    pub too_many : i ≡ n → fields c 0 n ws ≡ Ok None
+    unfolding fields
+    too_many eq =
+        let e : n - i ≡ 0 = omega (arith, eq) in
+        f.same ∙ rw (e, some) (alsos_none (take i out))
 
-  pub bad : (k : Expected) → i < n → 0 < length w → field (eqb i c) w ≡ Err k → fields c 0 (length out) (words s) ≡ Err k
-  unfolding fields
-  bad k lt p q =
-      let e : n - i ≡ suc (n - (i + 1)) = omega (arith, lt) in
-      rw f.long (f.same ∙ rw (e, cut.some p, q) (alsos_err (take i out) k))
+    pub bad : (k : Expected) → i < n → field (may_be_table c i) w ≡ Err k → fields c 0 n ws ≡ Err k
+    unfolding fields
+    bad k lt q =
+        let e : n - i ≡ suc (n - (i + 1)) = omega (arith, lt) in
+        f.same ∙ rw (e, some, q) (alsos_err (take i out) k)
 
-  pub next : (x : ℕ) → i < n → 0 < length w → field (eqb i c) w ≡ Ok x → Filled s c n (i + 1) (set out i x) after
-  unfolding fields
-  next x lt p q =
-      let e : n - i ≡ suc (n - (i + 1)) = omega (arith, lt) in
-      let l : i < length out = omega (arith, lt, f.long) in
-      record {
-        within = omega (arith, lt);
-        long = length-set out i x ∙ f.long;
-        same = f.same ∙ rw (e, cut.some p, q) (alsos_push (take i out) x (fields c (i + 1) (n - (i + 1)) (words after)) ∙ ap (λ t. alsos t (fields c (i + 1) (n - (i + 1)) (words after))) (sym (take_more_set out i x l)));
-      }
+    pub next : (x : ℕ) → i < n → field (may_be_table c i) w ≡ Ok x → Filled ws c n (i + 1) (set out i x) after
+    unfolding fields
+    next x lt q =
+        let e : n - i ≡ suc (n - (i + 1)) = omega (arith, lt) in
+        let l : i < length out = omega (arith, lt, f.long) in
+        record {
+          within = omega (arith, lt);
+          long = length-set out i x ∙ f.long;
+          same = f.same ∙ rw (e, some, q) (alsos_push (take i out) x (fields c (i + 1) (n - (i + 1)) after) ∙ ap (λ t. alsos t (fields c (i + 1) (n - (i + 1)) after)) (sym (take_more_set out i x l)));
+        }

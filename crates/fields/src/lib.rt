@@ -1,82 +1,96 @@
 // The fields of a line: numbers, and a table by its name; and what a text should have had where it is at fault.
 #![tactic(auto)]
 
-ghost use Rattle.std.specs.Prelude.{◌≡◌, ℕ, ◌+◌, ◌<◌, ◌≤◌, true, false, length, MatchResult};
+ghost use Rattle.std.specs.Prelude.{◌≡◌, ℕ, true, position};
+ghost use Rattle.std.specs.Str.{bytes_eq};
 ghost use Rattle.lines.specs.Words.{words};
-ghost use Rattle.fields.specs.Fields.{place_from, named, fields, FrontField, FieldsRead};
+ghost use Rattle.fields.specs.Fields.{named, field, fields, wanted};
 
-use lines::Unread;
+use lines::{Unread, Words};
 
 mod fault;
 
 pub use fault::{Expected, Fault};
 
-const NAMES: &[u8] =
-    b"never nor first-only not-second second-only not-first xor nand and xnor first first-or-not-second second second-or-not-first or always";
+impl From<Unread> for Expected {
+    ghost from_gives = { λ u e. e ≡ wanted u };
 
-// The place of a word among the words of a list.
-fn place(w: &[u8], list: &[u8]) -> Option<u32>
-    requires { length list.now < 1000 }
-    ensures { result ≡ place_from 0 (words list.now) w.now }
-{
-    let mut rest = list;
-    let mut k: u32 = 0;
-    loop {
-        let (n, after) = lines::word(rest);
-        if n.is_empty() {
-            return None;
+    fn from(unread: Unread) -> Expected {
+        match unread {
+            Unread::NoDigit => Expected::Number,
+            Unread::TooLarge => Expected::Small,
         }
-        if lines::same(w, n) {
-            return Some(k);
-        }
-        k += 1;
-        rest = after;
     }
+}
+
+// The names of the tables, in order.
+const NAMES: [&str; 16] = [
+    "never",
+    "nor",
+    "first-only",
+    "not-second",
+    "second-only",
+    "not-first",
+    "xor",
+    "nand",
+    "and",
+    "xnor",
+    "first",
+    "first-or-not-second",
+    "second",
+    "second-or-not-first",
+    "or",
+    "always",
+];
+
+// The place of a word among names.
+fn place(w: &[u8], names: &[&str]) -> Option<usize>
+    ensures { result ≡ position (λ n. bytes_eq w.now n.now) names.now }
+{
+    names.iter().position(|n| lines::same(w, n.as_bytes()))
 }
 
 // The table that a word names.
+#[tactic(auto, unfolding(crate::specs::Fields::named))]
 pub fn table_of(w: &[u8]) -> Option<u32>
     ensures { result ≡ named w.now }
 {
-    place(w, NAMES)
+    place(w, &NAMES).map(|k| k as u32)
 }
 
-// The number of the word at the front, and how long the word is; where a table may stand, also by its name.
-fn field(s: &[u8], table: bool) -> Result<(u32, usize), Expected>
-    ensures { FrontField table s.now result }
+// A table, by its name or its number.
+#[tactic(auto, unfolding(crate::specs::Fields::field))]
+fn table(word: &[u8]) -> Result<u32, Expected>
+    ensures { result ≡ field true word.now }
 {
-    match lines::number(s) {
-        Ok(x) => Ok(x),
-        Err(Unread::TooLarge) => Err(Expected::Small),
-        Err(Unread::NoDigit) => {
-            if !table {
-                return Err(Expected::Number);
-            }
-            let w = lines::front(s);
-            match table_of(w) {
-                Some(t) => Ok((t, w.len())),
-                None => Err(Expected::Table),
-            }
-        }
+    match lines::value(word) {
+        Err(Unread::NoDigit) => table_of(word).ok_or(Expected::Table),
+        number => Ok(number?),
     }
 }
 
-// Whether a line has just as many numbers as `out` has places, which then holds them. In column `table_at` a table's name
-// may stand.
-pub fn read(line: &[u8], table_at: usize, out: &mut [u32]) -> Result<bool, Expected>
-    ensures { FieldsRead table_at (words line.now) out.new result }
+// The numbers of a line that has just N, and None where it has fewer or more. In column `table_at`, if there
+// is one, a table's name may stand.
+pub fn read<const N: usize>(
+    line: &[u8],
+    table_at: Option<usize>,
+) -> Result<Option<[u32; N]>, Expected>
+    ensures { result ≡ fields table_at 0 N (words line.now) }
 {
-    let mut rest = line;
-    for i in 0..out.len() {
-        let (_, s) = rest.split_at(lines::blanks(rest));
-        if s.is_empty() {
-            return Ok(false);
-        }
-        let (x, k) = field(s, i == table_at)?;
-        out[i] = x;
-        let (_, after) = s.split_at(k);
-        rest = after;
+    let mut numbers = [0; N];
+    let mut words = Words::new(line);
+    for (i, number) in numbers.iter_mut().enumerate() {
+        let Some(word) = words.next() else {
+            return Ok(None);
+        };
+        *number = if table_at == Some(i) {
+            table(word)?
+        } else {
+            lines::value(word)?
+        };
     }
-    let (w, _) = lines::word(rest);
-    Ok(w.is_empty())
+    match words.next() {
+        None => Ok(Some(numbers)),
+        Some(_) => Ok(None),
+    }
 }

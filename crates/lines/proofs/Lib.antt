@@ -1,3 +1,3 @@
-pub mod FrontLaws
+pub mod CursorLaws
 pub mod NumberLaws
 pub mod WordLaws

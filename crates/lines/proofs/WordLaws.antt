@@ -1,9 +1,10 @@
 -- Laws of `words`.
-use Rattle.std.proofs.Common.{◌≡◌, ℕ, suc, ◌-◌, ◌<◌, ◌≤◌, List, [], ◌∷◌, length, take, drop, sym, refl, ap, ◌∙◌, inl, inr, add-one, one-add, arith}
-use Rattle.std.proofs.lemmas.List.{length-take-le, length-drop, drop-drop}
+use Rattle.std.proofs.Common.{◌≡◌, ℕ, suc, ◌-◌, ◌<◌, List, [], ◌∷◌, length, take, drop, sym, refl, ap, ◌∙◌, inl, inr, add-one, one-add, arith}
+use Rattle.std.proofs.lemmas.List.{drop-drop, take_rest, drop_all, nil_from_length}
 use Rattle.std.specs.List.{prefix_len}
 use Rattle.std.proofs.lemmas.Bool.{cases_Bool}
-use Rattle.lines.specs.Words.{blank, ink, onto, words, inline, lines, FirstWord}
+use Rattle.lines.specs.Words.{blank, ink, onto, words, inline, lines}
+use Rattle.lines.specs.Front.{front}
 
 -- blanks in front change nothing
 pub words_past_blanks : (s : List ℕ) → words s ≡ words (drop (prefix_len blank s) s)
@@ -35,17 +36,8 @@ no_words (b ∷ bs) h =
       | inr e ↦ absurd (let h' : suc (prefix_len ink bs) ≡ 0 = simp (e, one-add) at h in omega arith)
     ]
 
-pub first_word : (s rest w after : List ℕ) (n k : ℕ) → n ≡ prefix_len blank s → rest ≡ drop n s → k ≡ prefix_len ink rest → k ≤ length rest → w ≡ take k rest → after ≡ drop k rest → FirstWord s w after
-first_word s rest w after n k en er ek le ew ea =
-    let lw : length w ≡ k = ap length ew ∙ length-take-le k rest le in
-    let la : length after ≡ length rest - k = ap length ea ∙ length-drop k rest in
-    let lr : length rest ≡ length s - n = ap length er ∙ length-drop n s in
-    let er' : rest ≡ drop (prefix_len blank s) s = cc in
-    record {
-      none = λ z. no_words s (ap (prefix_len ink) (sym er') ∙ sym ek ∙ sym lw ∙ z);
-      some = λ p. words_past_blanks s ∙ ap words (sym er') ∙ words_at_ink rest (omega arith) ∙ (let e₁ : take (prefix_len ink rest) rest ≡ w = cc in let e₂ : drop (prefix_len ink rest) rest ≡ after = cc in cc);
-      parts = omega arith;
-    }
+pub first_word : (s : List ℕ) → 0 < prefix_len ink (drop (prefix_len blank s) s) → words s ≡ front (drop (prefix_len blank s) s) ∷ words (drop (prefix_len ink (drop (prefix_len blank s) s)) (drop (prefix_len blank s) s))
+first_word s p = words_past_blanks s ∙ words_at_ink (drop (prefix_len blank s) s) p
 
 -- a text that is not empty is its first line and the others
 pub lines_first : (s : List ℕ) → 0 < length s → lines s ≡ take (prefix_len inline s) s ∷ lines (drop (suc (prefix_len inline s)) s)
@@ -58,14 +50,15 @@ lines_first (b ∷ c ∷ cs) h =
       | inr e ↦ simp e
     ]
 
-pub cut_line : (s l rest after : List ℕ) (n : ℕ) → 0 < length s → n ≡ prefix_len inline s → l ≡ take n s → rest ≡ drop n s → after ≡ drop 1 rest → lines s ≡ l ∷ lines after
-cut_line s l rest after n some en el er ea =
-    let e : after ≡ drop (suc n) s = ea ∙ ap (drop 1) er ∙ drop-drop 1 n s ∙ ap (λ k. drop k s) (add-one n) in
-    let f = lines_first s some in
-    let e₁ : take (prefix_len inline s) s ≡ l = cc in
-    let e₂ : drop (suc (prefix_len inline s)) s ≡ after = cc in
-    cc
+-- the line at the front, where a newline ends it and where the text does
+module _ (s l rest : List ℕ) (some : 0 < length s) (l_is : l ≡ take (prefix_len inline s) s) (rest_is : rest ≡ drop (prefix_len inline s) s) where
+  past_newline : lines s ≡ l ∷ lines (drop 1 rest)
+  past_newline =
+      let e : drop 1 rest ≡ drop (suc (prefix_len inline s)) s = ap (drop 1) rest_is ∙ drop-drop 1 (prefix_len inline s) s ∙ ap (λ k. drop k s) (add-one (prefix_len inline s)) in
+      lines_first s some ∙ (let f : take (prefix_len inline s) s ≡ l = cc in let g : drop (suc (prefix_len inline s)) s ≡ drop 1 rest = cc in cc)
 
-pub drop_empty : (xs : List ℕ) → length xs ≡ 0 → xs ≡ drop 1 xs
-drop_empty [] e = refl
-drop_empty (x ∷ xs) e = absurd (omega arith)
+  pub cut_line : lines s ≡ l ∷ lines (take (length rest - 1) (drop 1 rest))
+  cut_line = past_newline ∙ ap (λ x. l ∷ lines x) (sym (take_rest rest 1))
+
+  pub last_line : length rest ≡ 0 → lines s ≡ l ∷ lines rest
+  last_line none = past_newline ∙ ap (λ x. l ∷ lines x) (drop_all 1 rest (omega arith) ∙ sym (nil_from_length rest none))

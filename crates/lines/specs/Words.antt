@@ -1,6 +1,7 @@
 -- The lines of a text, and the words of a line.
-use Rattle.std.specs.Prelude.{◌≡◌, ℕ, ◌+◌, ◌<◌, ◌≤◌, Bool, cond, not, ◌||◌, List, [], ◌∷◌, length, take, ◌==◌}
+use Rattle.std.specs.Prelude.{◌≡◌, ℕ, ◌+◌, ◌<◌, ◌≤◌, Bool, cond, not, ◌||◌, List, [], ◌∷◌, length, take, Option, MatchOption, ◌==◌}
 use Rattle.std.specs.List.{prefix_len}
+use Rattle.std.specs.Borrow.{Bor}
 
 -- a space, a tab, or the carriage return of a line's end
 unfoldable pub blank : ℕ → Bool
@@ -25,7 +26,7 @@ words [] = []
 words (b ∷ bs) = cond (blank b) (words bs) (before b bs (words bs))
 
 -- no newline
-unfoldable pub inline : ℕ → Bool
+abbrev pub inline : ℕ → Bool
 inline b = not (b == 10)
 
 -- the lines of a text; what follows the last newline is one too, unless it is empty
@@ -34,21 +35,26 @@ lines [] = []
 lines (b ∷ bs) = cond (inline b) (onto b (lines bs)) ([] ∷ lines bs)
 
 -- no number sign, with which a comment begins
-unfoldable pub plain : ℕ → Bool
+abbrev pub plain : ℕ → Bool
 plain b = not (b == 35)
 
 -- what stands before a comment
 abbrev pub bare : List ℕ → List ℕ
 bare s = take (prefix_len plain s) s
 
--- w is the first word of s, or empty where there is none, and rest has the other words
-pub record FirstWord (s w rest : List ℕ) : Type 0 where
-  pub none : length w ≡ 0 → words s ≡ []
-  pub some : 0 < length w → words s ≡ w ∷ words rest
-  pub parts : length w + length rest ≤ length s
+-- r is the first word of s and what follows it, with the other words; or None where there is none
+abbrev pub FirstWord : (s : List ℕ) → Option (Bor (List ℕ) × Bor (List ℕ)) → Type 0
+FirstWord s r =
+    MatchOption r (words s ≡ [])
+    (λ x. (words s ≡ x.0.now ∷ words x.1.now) × (0 < length x.0.now) × (length x.0.now + length x.1.now ≤ length s))
 
--- l is the first line of s, if s is not empty, and rest has the other lines
-pub record FirstLine (s l rest : List ℕ) : Type 0 where
-  pub some : 0 < length s → lines s ≡ l ∷ lines rest
-  pub less : 0 < length s → length rest < length s
-  pub none : length s ≡ 0 → (length l ≡ 0) × (length rest ≡ 0)
+-- r is the first line of s and what follows it, with the other lines; or None where s is empty
+abbrev pub FirstLine : (s : List ℕ) → Option (Bor (List ℕ) × Bor (List ℕ)) → Type 0
+FirstLine s r = MatchOption r (s ≡ []) (λ x. (lines s ≡ x.0.now ∷ lines x.1.now) × (length x.1.now < length s))
+
+-- a cursor at the line with number n of the lines of s gave r, that line with its number, and is at the others of t, with
+-- number m the first; or it gave None at the text's end, and stays there
+abbrev pub NextLine : (s : List ℕ) (n : ℕ) → Option (ℕ × Bor (List ℕ)) → (t : List ℕ) (m : ℕ) → Type 0
+NextLine s n r t m =
+    MatchOption r ((lines s ≡ []) × (t ≡ s) × (m ≡ n))
+    (λ x. (x.0 ≡ n) × (m ≡ n + 1) × (lines s ≡ x.1.now ∷ lines t) × (length t < length s))

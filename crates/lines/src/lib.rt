@@ -1,11 +1,16 @@
 // Lines, words and numbers of a text of bytes.
 #![tactic(auto)]
 
-ghost use Rattle.std.specs.Prelude.{◌≡◌, ℕ, ◌+◌, ◌<◌, ◌≤◌, length};
+ghost use Rattle.std.specs.Prelude.{◌≡◌, ℕ, ◌+◌, ◌<◌, ◌≤◌, ◌==◌, not, length};
 ghost use Rattle.std.specs.List.{prefix_len};
 ghost use Rattle.std.specs.Str.{bytes_eq};
 ghost use Rattle.lines.specs.Front.{front, FrontNumber};
-ghost use Rattle.lines.specs.Words.{blank, ink, inline, bare, FirstWord, FirstLine};
+ghost use Rattle.lines.specs.Numbers.{number};
+ghost use Rattle.lines.specs.Words.{blank, ink, bare, FirstWord, FirstLine};
+
+mod cursor;
+
+pub use cursor::{Lines, Words};
 
 const SPACE: u8 = b' ';
 
@@ -14,6 +19,9 @@ const TAB: u8 = b'\t';
 const RETURN: u8 = b'\r';
 
 const COMMENT: u8 = b'#';
+
+// The least number that is too large.
+const LIMIT: u64 = 1 << 32;
 
 // Why a word is no number.
 #[derive(Clone, Copy, PartialEq, Debug)]
@@ -24,41 +32,40 @@ pub enum Unread {
     TooLarge,
 }
 
-// Whether two words are the same.
+// Whether two words are the same: the `==` of slices, by the name under which a contract can cite it.
 pub fn same(w: &[u8], v: &[u8]) -> bool
     ensures { result ≡ bytes_eq w.now v.now }
 {
     w == v
 }
 
+#[tactic(auto, unfolding(crate::specs::Words::blank))]
 fn is_blank(b: u8) -> bool
     ensures { result ≡ blank b }
 {
-    b == SPACE || b == TAB || b == RETURN
+    matches!(b, SPACE | TAB | RETURN)
 }
 
-fn line_len(s: &[u8]) -> usize
-    ensures count { result ≡ prefix_len inline s.now }
+// How many bytes stand before the first `mark`.
+fn until(s: &[u8], mark: u8) -> usize
+    ensures count { result ≡ prefix_len (λ b. not (b == mark)) s.now }
     ensures within { result ≤ length s.now }
 {
-    for (i, b) in s.iter().enumerate() {
-        if *b == b'\n' {
-            return i;
-        }
-    }
-    s.len()
+    s.iter().take_while(|b| **b != mark).count()
 }
 
-// The first line, and what follows its newline.
-pub fn line(s: &[u8]) -> (&[u8], &[u8])
-    ensures { FirstLine s.now result.0.now result.1.now }
+// The first line, and what follows its newline; None at the text's end.
+#[tactic(auto, using(crate::proofs::WordLaws::cut_line, crate::proofs::WordLaws::last_line))]
+pub fn line(s: &[u8]) -> Option<(&[u8], &[u8])>
+    ensures { FirstLine s.now result }
 {
-    let n = line_len(s);
-    let (l, rest) = s.split_at(n);
-    if rest.is_empty() {
-        (l, rest)
-    } else {
-        (l, &rest[1..])
+    if s.is_empty() {
+        return None;
+    }
+    let (line, rest) = s.split_at(until(s, b'\n'));
+    match rest {
+        [_, after @ ..] => Some((line, after)),
+        [] => Some((line, rest)),
     }
 }
 
@@ -66,12 +73,7 @@ pub fn line(s: &[u8]) -> (&[u8], &[u8])
 pub fn bare(s: &[u8]) -> &[u8]
     ensures { result.now ≡ bare s.now }
 {
-    for (i, b) in s.iter().enumerate() {
-        if *b == COMMENT {
-            return &s[..i];
-        }
-    }
-    s
+    &s[..until(s, COMMENT)]
 }
 
 // How many blanks stand first.
@@ -79,12 +81,7 @@ pub fn blanks(s: &[u8]) -> usize
     ensures count { result ≡ prefix_len blank s.now }
     ensures within { result ≤ length s.now }
 {
-    for (i, b) in s.iter().enumerate() {
-        if !is_blank(*b) {
-            return i;
-        }
-    }
-    s.len()
+    s.iter().take_while(|b| is_blank(**b)).count()
 }
 
 // How many bytes stand before the first blank.
@@ -92,55 +89,50 @@ fn inked(s: &[u8]) -> usize
     ensures count { result ≡ prefix_len ink s.now }
     ensures within { result ≤ length s.now }
 {
-    for (i, b) in s.iter().enumerate() {
-        if is_blank(*b) {
-            return i;
-        }
-    }
-    s.len()
-}
-
-// The first word, empty if there is none, and what follows it.
-pub fn word(s: &[u8]) -> (&[u8], &[u8])
-    ensures { FirstWord s.now result.0.now result.1.now }
-{
-    let rest = &s[blanks(s)..];
-    rest.split_at(inked(rest))
+    s.iter().take_while(|b| !is_blank(**b)).count()
 }
 
 // The word that stands at the front, empty where a blank does.
 pub fn front(s: &[u8]) -> &[u8]
     ensures { (result.now ≡ front s.now) × (length result.now ≡ prefix_len ink s.now) }
 {
-    let (w, _) = s.split_at(inked(s));
-    w
+    &s[..inked(s)]
+}
+
+// The first word, and what follows it; None where there is none.
+#[tactic(auto, using(crate::proofs::WordLaws::first_word, crate::proofs::WordLaws::no_words))]
+pub fn word(s: &[u8]) -> Option<(&[u8], &[u8])>
+    ensures { FirstWord s.now result }
+{
+    let (_, rest) = s.split_at(blanks(s));
+    match inked(rest) {
+        0 => None,
+        n => Some(rest.split_at(n)),
+    }
+}
+
+// The number that a word is: digits alone, where `str::parse` takes a sign too.
+pub fn value(word: &[u8]) -> Result<u32, Unread>
+    ensures { result ≡ number word.now }
+{
+    if word.is_empty() {
+        return Err(Unread::NoDigit);
+    }
+    let mut n: u64 = 0;
+    for b in word {
+        if !b.is_ascii_digit() {
+            return Err(Unread::NoDigit);
+        }
+        // Past the limit the rest is still looked at, since a word with another byte is no number at all.
+        n = (n * 10 + u64::from(*b - b'0')).min(LIMIT);
+    }
+    u32::try_from(n).map_err(|_| Unread::TooLarge)
 }
 
 // The number that stands at the front, and how long its word is.
 pub fn number(s: &[u8]) -> Result<(u32, usize), Unread>
     ensures { FrontNumber s.now result }
 {
-    let mut n: u64 = 0;
-    for (i, b) in s.iter().enumerate() {
-        if *b < b'0' || *b > b'9' {
-            if !is_blank(*b) {
-                return Err(Unread::NoDigit);
-            }
-            if i == 0 {
-                return Err(Unread::NoDigit);
-            }
-            if n > 4_294_967_295 {
-                return Err(Unread::TooLarge);
-            }
-            return Ok((n as u32, i));
-        }
-        n = (n * 10 + (*b - b'0') as u64).min(4_294_967_296);
-    }
-    if s.is_empty() {
-        return Err(Unread::NoDigit);
-    }
-    if n > 4_294_967_295 {
-        return Err(Unread::TooLarge);
-    }
-    Ok((n as u32, s.len()))
+    let word = front(s);
+    Ok((value(word)?, word.len()))
 }

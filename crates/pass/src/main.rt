@@ -100,8 +100,8 @@ fn pass_text(
                 if !said.passed {
                     tally.passed = false;
                 }
-                before = before.saturating_add(read.next).saturating_sub(1);
-                rest = read.rest;
+                before = before.saturating_add(read.rest.number).saturating_sub(1);
+                rest = read.rest.text;
             }
             Ok(None) => break,
             Err(e) => {

@@ -1,6 +1,9 @@
 -- What a text of circuits means.
-use Rattle.std.specs.Prelude.{◌≡◌, ℕ, ◌+◌, ◌-◌, Bool, true, false, cond, ◌&&◌, ◌⊎◌, List, [], ◌∷◌, ◌++◌, Some, None, Ok, Err, vec_items, codes, Option, Result, MatchResult, ◌==◌, nat_lt}
+use Rattle.std.specs.Prelude.{◌≡◌, ℕ, ◌+◌, ◌-◌, Bool, false, cond, ◌⊎◌, List, [], ◌∷◌, ◌++◌, Some, None, Ok, Err, vec_items, codes, Option, Result, MatchResult, ◌==◌, nat_lt}
 use Rattle.std.specs.Borrow.{Bor}
+use Rattle.std.specs.List.{list_all}
+use Rattle.std.specs.Option.{option_map}
+use Rattle.std.specs.Char.{is_ascii_graphic}
 use Rattle.std.specs.Str.{bytes_eq}
 use Rattle.circuit.specs.Refused.{place_of}
 use Rattle.circuit.specs.declared.refusal.Refusal.{Refusal}
@@ -13,16 +16,18 @@ use Rattle.fields.specs.declared.fault.Fault.{Fault}
 use Rattle.text.specs.declared.draft.Draft.{Draft}
 use Rattle.text.specs.declared.draft.Miscount.{Miscount}
 use Rattle.text.specs.declared.draft.Keyword.{Keyword}
-use Rattle.text.specs.declared.draft.Keyword.TheVariants.{Circuit, Times, Register, Gate, End, Unknown}
+use Rattle.text.specs.declared.draft.Keyword.TheVariants.{Circuit, Times, Register, Gate, End}
+use Rattle.text.specs.declared.draft.Progress.{Progress}
+use Rattle.text.specs.declared.draft.Progress.TheVariants.{More, Done}
 
 -- what the first word of a line says that the line is
-abbrev pub meaning : List ℕ → Keyword
+abbrev pub meaning : List ℕ → Option Keyword
 meaning w =
-    cond (bytes_eq w (codes "gate")) Gate
-    (cond (bytes_eq w (codes "register")) Register
-    (cond (bytes_eq w (codes "times")) Times
-    (cond (bytes_eq w (codes "circuit")) Circuit
-    (cond (bytes_eq w (codes "end")) End Unknown))))
+    cond (bytes_eq w (codes "gate")) (Some Gate)
+    (cond (bytes_eq w (codes "register")) (Some Register)
+    (cond (bytes_eq w (codes "times")) (Some Times)
+    (cond (bytes_eq w (codes "circuit")) (Some Circuit)
+    (cond (bytes_eq w (codes "end")) (Some End) None))))
 
 -- a circuit as it is read: its name, the line where it began, its numbers in the order of their lines,
 -- and a line that had another count of numbers than it should
@@ -56,36 +61,36 @@ abbrev pub with_times : Drafted → List ℕ → Option Miscount → Drafted
 with_times d xs m = record { name = d.name; line = d.line; gates = d.gates; registers = d.registers; times = xs; miscount = m }
 
 -- numbers are added to those of their part, or line n is miscounted, to be refused by e
-abbrev pub row : (put : List ℕ → Option Miscount → Drafted) (part : List ℕ) (m : Option Miscount) (e : Refusal) (n : ℕ) → Result (Option (List ℕ)) Expected → Result (Bool × Drafted) Expected
-row put part m e n (Ok (Some ns)) = Ok (true, put (part ++ ns) m)
-row put part m e n (Ok None) = Ok (true, put part (noted m e n))
+abbrev pub row : (put : List ℕ → Option Miscount → Drafted) (part : List ℕ) (m : Option Miscount) (e : Refusal) (n : ℕ) → Result (Option (List ℕ)) Expected → Result (Progress × Drafted) Expected
+row put part m e n (Ok (Some ns)) = Ok (More, put (part ++ ns) m)
+row put part m e n (Ok None) = Ok (More, put part (noted m e n))
 row put part m e n (Err k) = Err k
 
-abbrev pub ending : Drafted → List (List ℕ) → Result (Bool × Drafted) Expected
-ending d [] = Ok (false, d)
+abbrev pub ending : Drafted → List (List ℕ) → Result (Progress × Drafted) Expected
+ending d [] = Ok (Done, d)
 ending d (w ∷ ws) = Err Nothing
 
 -- what line n makes of a circuit, by its keyword and its other words
-abbrev pub said : Keyword → ℕ → Drafted → List (List ℕ) → Result (Bool × Drafted) Expected
-said Gate n d ws = row (with_gates d) d.gates d.miscount GateNumbers n (fields 2 0 7 ws)
-said Register n d ws = row (with_registers d) d.registers d.miscount RegisterNumbers n (fields 3 0 3 ws)
-said Times n d ws = row (with_times d) d.times d.miscount TimeNumbers n (fields 5 0 5 ws)
-said End n d ws = ending d ws
-said Circuit n d ws = Err Statement
-said Unknown n d ws = Err Statement
+abbrev pub said : Option Keyword → ℕ → Drafted → List (List ℕ) → Result (Progress × Drafted) Expected
+said (Some Gate) n d ws = row (with_gates d) d.gates d.miscount GateNumbers n (fields (Some 2) 0 7 ws)
+said (Some Register) n d ws = row (with_registers d) d.registers d.miscount RegisterNumbers n (fields None 0 3 ws)
+said (Some Times) n d ws = row (with_times d) d.times d.miscount TimeNumbers n (fields None 0 5 ws)
+said (Some End) n d ws = ending d ws
+said (Some Circuit) n d ws = Err Statement
+said None n d ws = Err Statement
 
--- what line n makes of a circuit; false where it ends it
-unfoldable pub statement : ℕ → Drafted → List (List ℕ) → Result (Bool × Drafted) Expected
-statement n d [] = Ok (true, d)
+-- what line n makes of a circuit, and whether it goes on
+unfoldable pub statement : ℕ → Drafted → List (List ℕ) → Result (Progress × Drafted) Expected
+statement n d [] = Ok (More, d)
 statement n d (w ∷ ws) = said (meaning w) n d ws
 
 -- what was read: a circuit, with the number of the next line and the lines from there on; nothing; or the first fault
 abbrev pub Outcome : Type 0
 Outcome = Result (Option (Drafted × ℕ × List (List ℕ))) Fault
 
-abbrev pub went : Result (Bool × Drafted) Expected → ℕ → List (List ℕ) → (Drafted → Outcome) → Outcome
-went (Ok (true, d)) n ls more = more d
-went (Ok (false, d)) n ls more = Ok (Some (d, n + 1, ls))
+abbrev pub went : Result (Progress × Drafted) Expected → ℕ → List (List ℕ) → (Drafted → Outcome) → Outcome
+went (Ok (More, d)) n ls more = more d
+went (Ok (Done, d)) n ls more = Ok (Some (d, n + 1, ls))
 went (Err e) n ls more = Err (record { line = n; expected = e })
 
 -- line after line from line n on, up to the circuit's end
@@ -95,31 +100,32 @@ inside n d (l ∷ ls) = went (statement n d (words (bare l))) n ls (λ d'. insid
 
 -- a byte that a name may have: printable ASCII
 abbrev pub printable : ℕ → Bool
-printable b = nat_lt 32 b && nat_lt b 127
-
-abbrev pub all_printable : List ℕ → Bool
-all_printable [] = true
-all_printable (b ∷ bs) = printable b && all_printable bs
+printable = is_ascii_graphic
 
 -- the name of a circuit: none, or one word
 abbrev pub title : List (List ℕ) → Result (List ℕ) Expected
 title [] = Ok []
-title (w ∷ []) = cond (all_printable w) (Ok w) (Err Name)
+title (w ∷ []) = cond (list_all printable w) (Ok w) (Err Name)
 title (w ∷ (v ∷ ws)) = Err Name
 
-abbrev pub begins : Result (List ℕ) Expected → ℕ → List (List ℕ) → Outcome
-begins (Ok name) n ls = inside (n + 1) (fresh name n) ls
-begins (Err e) n ls = Err (record { line = n; expected = e })
+abbrev pub entitled : ℕ → Result (List ℕ) Expected → Result (Option Drafted) Expected
+entitled n (Ok name) = Ok (Some (fresh name n))
+entitled n (Err e) = Err e
 
 -- what line n is outside of a circuit: nothing, or the beginning of one
-abbrev pub found : List (List ℕ) → ℕ → List (List ℕ) → Outcome → Outcome
-found [] n ls more = more
-found (w ∷ ws) n ls more = cond (bytes_eq w (codes "circuit")) (begins (title ws) n ls) (Err (record { line = n; expected = Opening }))
+abbrev pub opened : ℕ → List (List ℕ) → Result (Option Drafted) Expected
+opened n [] = Ok None
+opened n (w ∷ ws) = cond (bytes_eq w (codes "circuit")) (entitled n (title ws)) (Err Opening)
+
+abbrev pub found : Result (Option Drafted) Expected → ℕ → List (List ℕ) → Outcome → Outcome
+found (Ok None) n ls more = more
+found (Ok (Some d)) n ls more = inside (n + 1) d ls
+found (Err e) n ls more = Err (record { line = n; expected = e })
 
 -- line after line from line n on, up to a circuit's beginning
 unfoldable pub first_circuit : ℕ → List (List ℕ) → Outcome
 first_circuit n [] = Ok None
-first_circuit n (l ∷ ls) = found (words (bare l)) n ls (first_circuit (n + 1) ls)
+first_circuit n (l ∷ ls) = found (opened n (words (bare l))) n ls (first_circuit (n + 1) ls)
 
 -- whether the first of the words is this one
 abbrev pub begins_with : (word : List ℕ) → List (List ℕ) → Bool
@@ -134,20 +140,24 @@ line_of word i n (l ∷ ls) = cond (begins_with word (words (bare l))) (cond (i 
 -- THE MEANING OF A TEXT is `first_circuit 1` of its lines, and then the same of the lines that are left.
 
 -- the code's answer r to the numbers x of line n, with their part and the miscounted line before and after it
-abbrev pub Added : Result (Option (List ℕ)) Expected → (e : Refusal) (n : ℕ) (part part' : List ℕ) (m m' : Option Miscount) → Result Bool Expected → Type 0
-Added x e n part part' m m' (Ok more) = (more ≡ true) × (((ns : List ℕ) × (x ≡ Ok (Some ns)) × (part' ≡ part ++ ns) × (m' ≡ m)) ⊎ ((x ≡ Ok None) × (part' ≡ part) × (m' ≡ noted m e n)))
-Added x e n part part' m m' (Err k) = (k ≡ Memory) ⊎ (x ≡ Err k)
+abbrev pub Added : Result (Option (List ℕ)) Expected → (e : Refusal) (n : ℕ) (part part' : List ℕ) (m m' : Option Miscount) → Result (Unit {0}) Expected → Type 0
+Added x e n part part' m m' r =
+    MatchResult r
+    (λ _. ((ns : List ℕ) × (x ≡ Ok (Some ns)) × (part' ≡ part ++ ns) × (m' ≡ m)) ⊎ ((x ≡ Ok None) × (part' ≡ part) × (m' ≡ noted m e n)))
+    (λ k. (k ≡ Memory) ⊎ (x ≡ Err k))
 
 -- the code's answer r for what is said of a line, with the draft d after it
-abbrev pub Stated : Result (Bool × Drafted) Expected → Drafted → Result Bool Expected → Type 0
-Stated o d (Ok more) = o ≡ Ok (more, d)
-Stated o d (Err e) = (e ≡ Memory) ⊎ (o ≡ Err e)
+abbrev pub Stated : Result (Progress × Drafted) Expected → Drafted → Result Progress Expected → Type 0
+Stated o d r = MatchResult r (λ p. o ≡ Ok (p, d)) (λ e. (e ≡ Memory) ⊎ (o ≡ Err e))
 
 -- the code's answer r for the words after `end`
-abbrev pub Ended : List (List ℕ) → Result Bool Expected → Type 0
-Ended ws (Ok more) = (more ≡ false) × (ws ≡ [])
-Ended ws (Err e) = (e ≡ Nothing) × ((w : List ℕ) × (vs : List (List ℕ)) × (ws ≡ w ∷ vs))
+abbrev pub Ended : List (List ℕ) → Result (Unit {0}) Expected → Type 0
+Ended ws r = MatchResult r (λ _. ws ≡ []) (λ e. (e ≡ Nothing) × ((w : List ℕ) × (vs : List (List ℕ)) × (ws ≡ w ∷ vs)))
 
 -- the code's answer r for a name
 abbrev pub Titled : Result (List ℕ) Expected → Result (Bor (List ℕ)) Expected → Type 0
 Titled t r = MatchResult r (λ name. t ≡ Ok name.now) (λ e. t ≡ Err e)
+
+-- the code's answer r for a line outside of a circuit
+abbrev pub Opened : Result (Option Drafted) Expected → Result (Option Draft) Expected → Type 0
+Opened o r = MatchResult r (λ d. o ≡ Ok (option_map drafted d)) (λ e. (e ≡ Memory) ⊎ (o ≡ Err e))

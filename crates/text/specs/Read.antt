@@ -11,12 +11,12 @@ use Rattle.text.specs.Meaning.{Outcome, drafted}
 abbrev pub WasRead : Outcome → ℕ → Result Read Fault → Type 0
 WasRead o n r =
     MatchResult r
-    (λ x. (o ≡ Ok (Some (drafted x.draft, x.next, lines x.rest.now))) × (length x.rest.now ≤ n))
+    (λ x. (o ≡ Ok (Some (drafted x.draft, x.rest.number, lines x.rest.text.now))) × (length x.rest.text.now ≤ n))
     (λ e. (e.expected ≡ Memory) ⊎ (o ≡ Err e))
 
 -- the same where there may be no circuit, and fewer than n bytes are left
 abbrev pub IsRead : Outcome → ℕ → Result (Option Read) Fault → Type 0
 IsRead o n r =
     MatchResult r
-    (λ x. options.MatchOption x (o ≡ Ok None) (λ y. (o ≡ Ok (Some (drafted y.draft, y.next, lines y.rest.now))) × (length y.rest.now < n)))
+    (λ x. options.MatchOption x (o ≡ Ok None) (λ y. (o ≡ Ok (Some (drafted y.draft, y.rest.number, lines y.rest.text.now))) × (length y.rest.text.now < n)))
     (λ e. (e.expected ≡ Memory) ⊎ (o ≡ Err e))

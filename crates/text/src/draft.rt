@@ -1,5 +1,6 @@
 // A circuit as it is read.
 use circuit::Refusal;
+use lines::Lines;
 
 // What a line is, by its first word.
 #[derive(Clone, Copy, PartialEq, Debug)]
@@ -9,7 +10,6 @@ pub enum Keyword {
     Register,
     Gate,
     End,
-    Unknown,
 }
 
 // A line that has another count of numbers than it should: the refusal of its part, and the line, counted from 1.
@@ -19,9 +19,9 @@ pub struct Miscount {
     pub line: usize,
 }
 
-// A circuit's name, empty where it has none, the line where it began, and its numbers in the order of their lines. Of
-// the lines that have another count of numbers than they should, the first of the gates is kept, else of the registers,
-// else of the times.
+// A circuit's name, empty where it has none (a word is never empty, so an Option would say no more), the line where it
+// began, and its numbers in the order of their lines. Of the lines that have another count of numbers than they should,
+// the first of the gates is kept, else of the registers, else of the times.
 #[derive(Drop)]
 pub struct Draft {
     pub name: Vec<u8>,
@@ -32,10 +32,16 @@ pub struct Draft {
     pub miscount: Option<Miscount>,
 }
 
-// A circuit that was read, with the number of the next line and the text from there on.
+// Whether a circuit goes on after a line.
+#[derive(Clone, Copy, PartialEq, Debug)]
+pub enum Progress {
+    More,
+    Done,
+}
+
+// A circuit that was read, with the lines after it.
 #[derive(Drop)]
 pub struct Read<'a> {
     pub draft: Draft,
-    pub next: usize,
-    pub rest: &'a [u8],
+    pub rest: Lines<'a>,
 }

@@ -1,27 +1,35 @@
-use Rattle.std.proofs.Common.{refl, arith, rules}
+use Rattle.std.proofs.Common.{sym, rules}
 use Rattle.std.proofs.lemmas.Result.{err_from_is_err_and}
-use Rattle.std.proofs.lemmas.List.Sums.{prefix_len-le-length}
-use Rattle.lines.specs.Words.{ink}
-use Rattle.lines.proofs.FrontLaws.{cut, some_front, no_front}
-use Rattle.fields.proofs.FieldLaws.{too_few, at_end, bad, next}
+use Rattle.std.proofs.lemmas.List.{length-replicate}
+use Rattle.fields.proofs.FieldLaws.{number_field, no_number, none_yet, too_few, too_many, all_there, bad, next}
 use Rattle.fields.proofs.read.Goals as goal
+use Rattle.fields.proofs.read.Goals.{then-eq+in_ok-table, else-eq+in_ok-number}
 
-pub returns-then-is_empty : goal.returns-then-is_empty
-returns-then-is_empty c =
-    too_few c.loop-i.invariant (cut _ c.split_at.result.1.now _ _ _ c.blanks.ensures.count c.split_at.ensures.back refl refl) (search rules) (no_front c.split_at.result.1.now (search rules))
+pub loop-i-init : goal.loop-i-init
+loop-i-init g c = rw c.new-words.ensures (none_yet _ _ _ _ (length-replicate g.row.N 0))
 
-pub returns-in_err-x : goal.returns-in_err-x
-returns-in_err-x c =
+pub returns-in_default : goal.returns-in_default
+returns-in_default g c = search (rules, too_few)
+
+pub returns-in_err-table : goal.returns-in_err-table
+returns-in_err-table g c =
     let p = err_from_is_err_and c.from_residual.result c.from_residual.ensures.1 in
-    rw (p.1, p.2) (bad c.loop-i.invariant (cut _ c.split_at.result.1.now _ _ _ c.blanks.ensures.count c.split_at.ensures.back refl refl) _ (search rules) (some_front _ _ _ c.blanks.ensures.count c.split_at.ensures.back (search rules)) c.in_err-x.ensures)
+    rw (p.1, p.2) (sym (bad c.loop-i.invariant c.in-Some.ensures.steps _ (search rules) (rw (← c.if-eq.ensures) (search rules))))
 
-pub split_at-requires-in-loop-i : goal.split_at-requires-in-loop-i
-split_at-requires-in-loop-i c = omega (arith, c.in_ok-x.ensures.0, prefix_len-le-length ink c.split_at.result.1.now)
+pub returns-in_err-number : goal.returns-in_err-number
+returns-in_err-number g c =
+    let p = err_from_is_err_and c.from_residual-in_err-number.result c.from_residual-in_err-number.ensures.1 in
+    rw (p.1, p.2) (sym (bad c.loop-i.invariant c.in-Some.ensures.steps _ (search rules) (rw (← c.if-eq.ensures) (no_number _ _ (search rules)))))
 
 pub loop-i-preserved : goal.loop-i-preserved
-loop-i-preserved c =
-    next c.loop-i.invariant (cut _ c.split_at.result.1.now _ _ _ c.blanks.ensures.count c.split_at.ensures.back c.in_ok-x.ensures.0 c.split_at-in-loop-i.ensures.back) _ (search rules)
-    (some_front _ _ _ c.blanks.ensures.count c.split_at.ensures.back (search rules)) c.in_ok-x.ensures.1
+loop-i-preserved g c =
+    elim c.if-eq.branch [
+      | then-eq+in_ok-table w ↦ next c.loop-i.invariant c.in-Some.ensures.steps _ (search rules) (rw (← w.if-eq.ensures) (search rules))
+      | else-eq+in_ok-number w ↦ next c.loop-i.invariant c.in-Some.ensures.steps _ (search rules) (rw (← w.if-eq.ensures) (number_field _ _ (search rules)))
+    ]
 
-pub returns : goal.returns
-returns c = at_end c.loop-i.invariant c.word.ensures (search rules) _ c.is_empty-2.ensures
+pub returns-in-None : goal.returns-in-None
+returns-in-None g c = search (rules, all_there)
+
+pub returns-in-Some-next : goal.returns-in-Some-next
+returns-in-Some-next g c = sym (too_many c.loop-i.invariant c.in-Some-next.ensures.steps (search rules))

@@ -1,20 +1,13 @@
-use Rattle.std.proofs.Common.{sym, ◌∙◌, arith, rules}
-use Rattle.text.proofs.MeaningLaws.{other_passed, found_here, one_passed, none_passed}
+use Rattle.std.proofs.Common.{◌∙◌, sym, rules, tests}
+use Rattle.std.proofs.lemmas.Iterator.Adapters.{option_map_id}
+use Rattle.std.proofs.lemmas.Iterator.Consumers.{nth_from_yields_List, YieldsList-from_filter_map, YieldsList-at}
+use Rattle.lines.specs.Words.{lines}
+use Rattle.lines.proofs.CursorLaws.{yields_lines}
+use Rattle.text.proofs.MeaningLaws.{number_if, searched}
 use Rattle.text.proofs.line_of.Goals as goal
-use Rattle.text.proofs.line_of.Goals.{then-begins_with+else-left-eq0, else-begins_with}
-
-pub returns-then-left-eq0 : goal.returns-then-left-eq0
-returns-then-left-eq0 c = sym (found_here _ _ _ (c.line.ensures.some (search rules)) c.if-begins_with.ensures (search rules)) ∙ c.loop-rest.invariant.0
-
-pub loop-rest-preserved : goal.loop-rest-preserved
-loop-rest-preserved c =
-    let some = c.line.ensures.some (search rules) in (
-      elim c.if-begins_with.branch [
-        | then-begins_with+else-left-eq0 w ↦ rw w.left-is (sym (one_passed _ _ _ some w.if-begins_with.ensures (search rules)) ∙ c.loop-rest.invariant.0)
-        | else-begins_with w ↦ rw w.left-is (sym (other_passed _ _ _ some w.if-begins_with.ensures) ∙ c.loop-rest.invariant.0)
-      ],
-      omega (arith, c.line.ensures.less (search rules)),
-    )
 
 pub returns : goal.returns
-returns c = sym (none_passed _ _ _ c.loop-rest.rest.now (search rules)) ∙ c.loop-rest.invariant.0
+returns c =
+    sym (option_map_id c.nth.result)
+    ∙ nth_from_yields_List c.nth.result c.nth.new.self c.args.index c.nth.ensures.ran (YieldsList-from_filter_map _ (number_if c.args.word.now) (YieldsList-at c.filter_map.ensures.source (yields_lines c.new.result)) c.filter_map.ensures.closure (λ x r q k. search (rules, tests)))
+    ∙ rw (c.new.ensures.0, c.new.ensures.1) (searched c.args.word.now c.args.index 1 (lines c.args.text.now))

@@ -1,31 +1,44 @@
-use Rattle.std.proofs.Common.{◌∙◌, inl, inr, arith, rules}
-use Rattle.std.proofs.lemmas.Result.{err_from_is_err_and}
-use Rattle.text.proofs.MeaningLaws.{blank_outside, other_outside, opens, no_line_outside}
+use Rattle.std.proofs.Common.{refl, sym, ap, ◌∙◌, Err, inl, inr, arith, rules}
+use Rattle.std.proofs.lemmas.Result.{err_from_is_err_and, MatchResult-at_err, MatchResult-at_ok}
+use Rattle.text.proofs.MeaningLaws.{one_outside, no_line_outside, at_fault, no_fault}
 use Rattle.text.proofs.read.Goals as goal
 
-pub returns-then-not-same : goal.returns-then-not-same
-returns-then-not-same c =
-    inr (c.loop-rest.invariant.0 ∙ other_outside _ (c.line.ensures.some (search rules)) c.bare.ensures c.word.ensures (search rules) c.if-not-same.ensures)
-
-pub returns-in_err-begin : goal.returns-in_err-begin
-returns-in_err-begin c =
+pub returns-in_err-draft : goal.returns-in_err-draft
+returns-in_err-draft c =
     let p = err_from_is_err_and c.from_residual.result c.from_residual.ensures.1 in
-    let o = c.loop-rest.invariant.0 ∙ opens _ (c.line.ensures.some (search rules)) c.bare.ensures c.word.ensures (search rules) c.if-not-same.ensures in
-    rw (p.1, p.2) (elim c.in_err-begin.ensures [ inl memory ↦ inl memory | inr e ↦ inr (o ∙ e) ])
-
-pub returns-then-not-is_empty : goal.returns-then-not-is_empty
-returns-then-not-is_empty c =
-    let e = c.in_ok-begin.ensures in (
-      c.loop-rest.invariant.0 ∙ opens _ (c.line.ensures.some (search rules)) c.bare.ensures c.word.ensures (search rules) c.if-not-same.ensures ∙ e.0,
-      omega (arith, e.1, c.line.ensures.less (search rules)),
+    let step = c.in-Some.ensures.steps in
+    let f = at_fault c.in-Some.line c.open.result c.map_err.result (search rules) c.in_err-draft.field-0.0 (search rules) in
+    rw (p.1, p.2) (
+    elim (MatchResult-at_err _ _ _ f.0 c.open.ensures) [
+      | inl memory ↦ inl memory
+      | inr e ↦ inr (c.loop-line.invariant.0 ∙ one_outside step.0 step.1 step.2 c.bare.ensures ∙ rw e (ap (λ g. Err g) (sym f.1)))
+    ]
     )
 
-pub loop-rest-preserved : goal.loop-rest-preserved
-loop-rest-preserved c = (
-  c.loop-rest.invariant.0 ∙ blank_outside _ (c.line.ensures.some (search rules)) c.bare.ensures c.word.ensures (search rules),
-  omega (arith, c.line.ensures.less (search rules)),
-  omega (arith, c.line.ensures.less (search rules)),
-)
+pub returns-in_err-inside : goal.returns-in_err-inside
+returns-in_err-inside c =
+    let p = err_from_is_err_and c.from_residual-in_err-inside.result c.from_residual-in_err-inside.ensures.1 in
+    let step = c.in-Some.ensures.steps in
+    let opens = no_fault c.in-Some.line c.open.result c.map_err.result (search rules) c.in_ok-draft.draft (search rules) in
+    rw (p.1, p.2) (
+    elim c.in_err-inside.ensures [
+      | inl memory ↦ inl memory
+      | inr e ↦ inr (c.loop-line.invariant.0 ∙ one_outside step.0 step.1 step.2 c.bare.ensures ∙ rw (MatchResult-at_ok _ _ _ opens c.open.ensures, c.in-Some-draft.is, step.0, ← step.1) e)
+    ]
+    )
+
+pub returns-in-Some-draft : goal.returns-in-Some-draft
+returns-in-Some-draft c =
+    let step = c.in-Some.ensures.steps in
+    let opens = no_fault c.in-Some.line c.open.result c.map_err.result (search rules) c.in_ok-draft.draft (search rules) in
+    let e = c.in_ok-inside.ensures in
+    (c.loop-line.invariant.0 ∙ one_outside step.0 step.1 step.2 c.bare.ensures ∙ rw (MatchResult-at_ok _ _ _ opens c.open.ensures, c.in-Some-draft.is, step.0, ← step.1) e.0, omega (arith, step.3, e.1))
+
+pub loop-line-preserved : goal.loop-line-preserved
+loop-line-preserved c =
+    let step = c.in-Some.ensures.steps in
+    let opens = no_fault c.in-Some.line c.open.result c.map_err.result (search rules) c.in_ok-draft.draft (search rules) in
+    (c.loop-line.invariant.0 ∙ one_outside step.0 step.1 step.2 c.bare.ensures ∙ rw (MatchResult-at_ok _ _ _ opens c.open.ensures, c.in_default-draft.is) refl, omega (arith, step.3))
 
 pub returns : goal.returns
-returns c = c.loop-rest.invariant.0 ∙ no_line_outside c.loop-rest.rest.now _ (search rules)
+returns c = let none = c.in_default.ensures.steps in c.loop-line.invariant.0 ∙ no_line_outside _ none.0
