@@ -6,14 +6,16 @@ ghost use Rattle.circuit.specs.Lent.{gate_count, register_count, signal_count};
 ghost use Rattle.circuit.specs.Whole.{Whole, Placed, Ranged, Tied, Small, OutputOrdered};
 ghost use Rattle.circuit.specs.Refused.{FirstRefusal};
 ghost use Rattle.circuit.specs.declared.refusal.Refusal.TheVariants.{TooLarge, BadGate, BadDelay, BadRegister, BadOutput};
-ghost use Rattle.reason.specs.Reason.{TrueOf};
+ghost use Rattle.reason.specs.Reason.{TrueOf, TrueOfGate, TrueOfRegister, TrueOfTimes};
 
 use circuit::Refusal;
 
+mod column;
 mod detail;
 mod wording;
 
-pub use detail::Detail;
+pub use column::{GateColumn, Input, RegisterColumn, TimesColumn};
+pub use detail::{Detail, GateDetail, Large, RegisterDetail, TimesDetail};
 
 // A refusal, and what exactly is wrong.
 #[derive(Clone, Copy)]
@@ -22,82 +24,126 @@ pub struct Reason {
     pub detail: Detail,
 }
 
-fn large(gates: &[u32], registers: &[u32], times: &[u32], p: usize) -> Detail
-    requires seven { length gates.now % 7 ≡ 0 }
-    requires three { length registers.now % 3 ≡ 0 }
-    requires large { Small gates.now registers.now times.now p → ⊥ }
-    ensures { TrueOf gates.now registers.now times.now (TooLarge p) result }
-{
-    if p < gates.len() {
-        return Detail::LargeGate(p / 7, p % 7, gates[p]);
-    }
-    let q = p - gates.len();
-    if q < registers.len() {
-        return Detail::LargeRegister(q / 3, q % 3, registers[q]);
-    }
-    let i = q - registers.len();
-    Detail::LargeTime(i, times[i])
+// The numbers as lent, before they are known to be a circuit.
+#[derive(Clone, Copy)]
+struct Numbers<'a> {
+    gates: &'a [u32],
+    registers: &'a [u32],
+    times: &'a [u32],
 }
 
-fn gate(gates: &[u32], registers: &[u32], times: &[u32], k: usize) -> Detail
-    requires within { k < gate_count gates.now }
-    requires wrong { Placed (register_count registers.now) gates.now k → ⊥ }
-    ensures { TrueOf gates.now registers.now times.now (BadGate k) result }
-{
-    let at = registers.len() / 3 + k;
-    let one = gates[7 * k];
-    if one as usize >= at {
-        return Detail::FirstInput(k, one);
+impl Numbers<'_> {
+    // The number at `p` in the row of all, which is too large.
+    fn large(self, p: usize) -> Detail
+        requires seven { length self.gates.now % 7 ≡ 0 }
+        requires three { length self.registers.now % 3 ≡ 0 }
+        requires five { length self.times.now ≡ 5 }
+        requires large { Small self.gates.now self.registers.now self.times.now p → ⊥ }
+        ensures { TrueOf self.entry.gates.now self.entry.registers.now self.entry.times.now (TooLarge p) result }
+    {
+        if p < self.gates.len() {
+            let column = GateColumn::at(p % 7);
+            let value = self.gates[p];
+            return Detail::Gate(p / 7, GateDetail::Large(Large { column, value }));
+        }
+        let q = p - self.gates.len();
+        if q < self.registers.len() {
+            let column = RegisterColumn::at(q % 3);
+            let value = self.registers[q];
+            return Detail::Register(q / 3, RegisterDetail::Large(Large { column, value }));
+        }
+        let i = q - self.registers.len();
+        let column = TimesColumn::at(i);
+        let value = self.times[i];
+        Detail::Times(TimesDetail::Large(Large { column, value }))
     }
-    let two = gates[7 * k + 1];
-    if two as usize >= at {
-        return Detail::SecondInput(k, two);
-    }
-    Detail::Table(k, gates[7 * k + 2])
-}
 
-fn delay(gates: &[u32], registers: &[u32], times: &[u32], k: usize) -> Detail
-    requires within { k < gate_count gates.now }
-    requires wrong { Ranged gates.now k → ⊥ }
-    ensures { TrueOf gates.now registers.now times.now (BadDelay k) result }
-{
-    let (least, greatest) = (gates[7 * k + 3], gates[7 * k + 4]);
-    if least > greatest {
-        return Detail::FirstDelay(k, least, greatest);
+    // A gate's input or table that is wrong.
+    fn gate(self, k: usize) -> GateDetail
+        requires within { k < gate_count self.gates.now }
+        requires wrong { Placed (register_count self.registers.now) self.gates.now k → ⊥ }
+        ensures { TrueOfGate self.entry.gates.now self.entry.registers.now (BadGate k) k result }
+    {
+        let at = self.registers.len() / 3 + k;
+        let one = self.gates[7 * k];
+        if one as usize >= at {
+            return GateDetail::NotBefore {
+                input: Input::First,
+                signal: one,
+            };
+        }
+        let two = self.gates[7 * k + 1];
+        if two as usize >= at {
+            return GateDetail::NotBefore {
+                input: Input::Second,
+                signal: two,
+            };
+        }
+        GateDetail::Table(self.gates[7 * k + 2])
     }
-    Detail::SecondDelay(k, gates[7 * k + 5], gates[7 * k + 6])
-}
 
-fn register(gates: &[u32], registers: &[u32], times: &[u32], r: usize) -> Detail
-    requires within { r < register_count registers.now }
-    requires wrong { Tied (signal_count gates.now registers.now) registers.now r → ⊥ }
-    ensures { TrueOf gates.now registers.now times.now (BadRegister r) result }
-{
-    let signal = registers[3 * r];
-    if signal as usize >= registers.len() / 3 + gates.len() / 7 {
-        return Detail::Signal(r, signal);
+    // A gate's delays that are out of order.
+    fn delay(self, k: usize) -> GateDetail
+        requires within { k < gate_count self.gates.now }
+        requires wrong { Ranged self.gates.now k → ⊥ }
+        ensures { TrueOfGate self.entry.gates.now self.entry.registers.now (BadDelay k) k result }
+    {
+        let (least, greatest) = (self.gates[7 * k + 3], self.gates[7 * k + 4]);
+        if least > greatest {
+            return GateDetail::Delay {
+                input: Input::First,
+                least,
+                greatest,
+            };
+        }
+        let (least, greatest) = (self.gates[7 * k + 5], self.gates[7 * k + 6]);
+        GateDetail::Delay {
+            input: Input::Second,
+            least,
+            greatest,
+        }
     }
-    Detail::Clock(r, registers[3 * r + 1], registers[3 * r + 2])
-}
 
-fn output(gates: &[u32], registers: &[u32], times: &[u32]) -> Detail
-    requires five { length times.now ≡ 5 }
-    requires wrong { OutputOrdered times.now → ⊥ }
-    ensures { TrueOf gates.now registers.now times.now BadOutput result }
-{
-    Detail::Output(times[1], times[2])
+    // A register's signal that is past the circuit, or its times that are out of order.
+    fn register(self, r: usize) -> RegisterDetail
+        requires within { r < register_count self.registers.now }
+        requires wrong { Tied (signal_count self.gates.now self.registers.now) self.registers.now r → ⊥ }
+        ensures { TrueOfRegister self.entry.gates.now self.entry.registers.now (BadRegister r) r result }
+    {
+        let signal = self.registers[3 * r];
+        if signal as usize >= self.registers.len() / 3 + self.gates.len() / 7 {
+            return RegisterDetail::Signal(signal);
+        }
+        let (early, late) = (self.registers[3 * r + 1], self.registers[3 * r + 2]);
+        RegisterDetail::Clock { early, late }
+    }
+
+    // The output times, which are out of order.
+    fn output(self) -> TimesDetail
+        requires five { length self.times.now ≡ 5 }
+        requires wrong { OutputOrdered self.times.now → ⊥ }
+        ensures { TrueOfTimes self.entry.gates.now self.entry.registers.now self.entry.times.now BadOutput result }
+    {
+        TimesDetail::Output {
+            earliest: self.times[1],
+            latest: self.times[2],
+        }
+    }
 }
 
 // Why numbers are turned away, or None where they are a circuit.
+#[tactic(auto, using(circuit::proofs::Order::shaped_before))]
 pub fn explain(gates: &[u32], registers: &[u32], times: &[u32]) -> Option<Reason>
     ensures { MatchOption result
         (Whole gates.now registers.now times.now)
         (λ x. FirstRefusal gates.now registers.now times.now x.refusal
         × TrueOf gates.now registers.now times.now x.refusal x.detail) }
 {
-    let refusal = match circuit::look(gates, registers, times) {
-        Ok(()) => return None,
-        Err(refusal) => refusal,
+    let refusal = circuit::look(gates, registers, times).err()?;
+    let numbers = Numbers {
+        gates,
+        registers,
+        times,
     };
     let detail = match refusal {
         Refusal::GateNumbers => Detail::GateNumbers(gates.len()),
@@ -105,11 +151,11 @@ pub fn explain(gates: &[u32], registers: &[u32], times: &[u32]) -> Option<Reason
         Refusal::TimeNumbers => Detail::TimeNumbers(times.len()),
         Refusal::RegisterCount => Detail::Registers(registers.len() / 3),
         Refusal::GateCount => Detail::Gates(gates.len() / 7),
-        Refusal::TooLarge(p) => large(gates, registers, times, p),
-        Refusal::BadGate(k) => gate(gates, registers, times, k),
-        Refusal::BadDelay(k) => delay(gates, registers, times, k),
-        Refusal::BadRegister(r) => register(gates, registers, times, r),
-        Refusal::BadOutput => output(gates, registers, times),
+        Refusal::TooLarge(p) => numbers.large(p),
+        Refusal::BadGate(k) => Detail::Gate(k, numbers.gate(k)),
+        Refusal::BadDelay(k) => Detail::Gate(k, numbers.delay(k)),
+        Refusal::BadRegister(r) => Detail::Register(r, numbers.register(r)),
+        Refusal::BadOutput => Detail::Times(numbers.output()),
         Refusal::NoSignal(s) => Detail::Asked(s),
         Refusal::NoRoom(n) => Detail::Room(n),
     };
