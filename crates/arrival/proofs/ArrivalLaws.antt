@@ -1,6 +1,6 @@
 -- Laws of arrival times, for both kinds at once.
 use Rattle.std.proofs.Common.{◌≡◌, ℕ, ◌+◌, ◌<◌, true, false, length, sym, ap, ◌∙◌, arith}
-use Rattle.circuit.specs.Gate.{Gate}
+use Rattle.circuit.specs.declared.gate.Gate.{Gate}
 use Rattle.circuit.specs.Circuit.{Circuit, gate, Sound}
 use Rattle.circuit.proofs.Signals.{all_in, all_at, each_signal}
 use Rattle.arrival.specs.declared.edge.Edge.{Edge}

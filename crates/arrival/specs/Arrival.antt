@@ -1,6 +1,6 @@
 -- Latest and earliest arrival times of signals, over times of their sources.
 use Rattle.std.specs.Prelude.{◌≡◌, ℕ, ◌+◌, ◌<◌, ◌≤◌, min, max, Bool, true, false, length}
-use Rattle.circuit.specs.Gate.{Gate}
+use Rattle.circuit.specs.declared.gate.Gate.{Gate}
 use Rattle.circuit.specs.Circuit.{Circuit, gate, signals, Sound, along}
 use Rattle.arrival.specs.declared.edge.Edge.{Edge}
 use Rattle.arrival.specs.declared.edge.Edge.TheVariants.{Late, Early}

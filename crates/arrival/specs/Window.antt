@@ -1,6 +1,7 @@
 -- Waves, gates whose delays change from moment to moment, and the window in which a signal is sure.
 use Rattle.std.specs.Prelude.{◌≡◌, ℕ, ◌+◌, ◌-◌, ◌<◌, ◌≤◌, Bool, length}
-use Rattle.circuit.specs.Gate.{Gate, output}
+use Rattle.circuit.specs.Gate.{output}
+use Rattle.circuit.specs.declared.gate.Gate.{Gate}
 use Rattle.circuit.specs.Circuit.{Circuit, gate, signals, Sound}
 use Rattle.drawing.specs.Drawing.{ideal}
 use Rattle.arrival.specs.Arrival.{latest, earliest}

@@ -1,3 +1,4 @@
+pub mod Chunks
 pub mod Filling
 pub mod Joined
 pub mod LentLaws

@@ -1,7 +1,8 @@
 -- What `along` makes of a circuit, by two equations, and the induction over a circuit's signals. Nothing else opens `along`.
 use Rattle.std.proofs.Common.{◌≡◌, ℕ, zero, suc, ◌+◌, ◌-◌, ◌<◌, cond, eqb, List, [], ◌∷◌, length, get_or, refl, ◌∙◌, inl, inr, add-zero, arith}
 use Rattle.std.proofs.lemmas.Bool.{ne_eqb, eq-eqb, cases_lt}
-use Rattle.circuit.specs.Gate.{Gate, no_gate}
+use Rattle.circuit.specs.Gate.{no_gate}
+use Rattle.circuit.specs.declared.gate.Gate.{Gate}
 use Rattle.circuit.specs.Circuit.{Circuit, gate, signals, Sound, along}
 
 module _ {A : Type 0} (f : ℕ → Gate → A → A → A) where

@@ -1,6 +1,7 @@
 -- Gates over sources, and values of all signals by one rule.
 use Rattle.std.specs.Prelude.{ℕ, suc, ◌+◌, ◌<◌, ◌≤◌, cond, List, [], ◌∷◌, length, ◌==◌, slice_index_or}
-use Rattle.circuit.specs.Gate.{Gate, no_gate}
+use Rattle.circuit.specs.Gate.{no_gate}
+use Rattle.circuit.specs.declared.gate.Gate.{Gate}
 
 -- signals are numbered: the sources (inputs) first, then the gates in order
 pub record Circuit : Type 0 where

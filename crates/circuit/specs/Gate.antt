@@ -1,16 +1,8 @@
 -- A gate, and what its table makes of two bits.
 use Rattle.std.specs.Prelude.{◌≡◌, ℕ, ◌+◌, ◌/◌, ◌%◌, ◌^◌, ◌<◌, Bool, true, false, cond, not, ◌&&◌, ◌||◌, List, [], ◌∷◌, codes, ◌==◌, slice_index_or}
+use Rattle.circuit.specs.declared.gate.Gate.{Gate}
 
--- a gate has two inputs, each a signal's number, a table of four bits, and for each input a least and a greatest delay
-pub record Gate : Type 0 where
-  pub one : ℕ
-  pub two : ℕ
-  pub table : ℕ
-  pub least_one : ℕ
-  pub greatest_one : ℕ
-  pub least_two : ℕ
-  pub greatest_two : ℕ
-
+-- what stands for a gate that is not there
 abbrev pub no_gate : Gate
 no_gate = record { one = 0; two = 0; table = 0; least_one = 0; greatest_one = 0; least_two = 0; greatest_two = 0 }
 

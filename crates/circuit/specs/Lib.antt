@@ -4,3 +4,4 @@ pub mod Circuit
 pub mod Lent
 pub mod Whole
 pub mod Refused
+pub mod Checked

@@ -3,10 +3,17 @@
 
 mod checks;
 mod circuit;
+mod gate;
 mod listed;
+mod numbers;
+mod parts;
 mod refusal;
+mod register;
 pub mod table;
 
 pub use checks::{LARGEST, MOST_GATES, MOST_REGISTERS, look};
 pub use circuit::Circuit;
+pub use gate::Gate;
+pub use numbers::Numbers;
 pub use refusal::Refusal;
+pub use register::Register;

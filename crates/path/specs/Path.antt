@@ -1,6 +1,6 @@
 -- Paths through gates, and the one by which a signal's latest or earliest time is reached.
 use Rattle.std.specs.Prelude.{◌≡◌, ℕ, ◌+◌, ◌-◌, ◌<◌, ◌≤◌, Bool, true, false, cond, ◌⊎◌, List, [], ◌∷◌, ◌++◌, length, nat_lt, slice_index}
-use Rattle.circuit.specs.Gate.{Gate}
+use Rattle.circuit.specs.declared.gate.Gate.{Gate}
 use Rattle.circuit.specs.Circuit.{Circuit, gate, signals, Sound, along}
 use Rattle.circuit.specs.Filled.{Filled}
 use Rattle.circuit.specs.Lent.{register_count, signal_count, drawn}

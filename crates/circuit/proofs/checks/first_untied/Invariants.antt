@@ -1,6 +1,0 @@
-use Rattle.std.proofs.Common.{ℕ, ◌<◌}
-use Rattle.circuit.specs.Whole.{Tied}
-use Rattle.circuit.proofs.checks.first_untied.Given as goal
-
-abbrev pub invariant-loop-r : goal.invariant-loop-r
-invariant-loop-r l = (q : ℕ) → q < l.r → Tied l.n l.registers q
