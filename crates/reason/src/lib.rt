@@ -1,14 +1,15 @@
 // Why numbers are turned away: the first refusal that applies, and what exactly is wrong.
 #![tactic(auto)]
 
-ghost use Rattle.std.specs.Prelude.{◌≡◌, ℕ, ◌+◌, ◌%◌, ◌<◌, length, MatchOption};
+ghost use Rattle.std.specs.Prelude.{◌≡◌, ◌<◌, length, MatchOption};
+ghost use Rattle.circuit.specs.Checked.{lent};
 ghost use Rattle.circuit.specs.Lent.{gate_count, register_count, signal_count};
-ghost use Rattle.circuit.specs.Whole.{Whole, Placed, Ranged, Tied, Small, OutputOrdered};
+ghost use Rattle.circuit.specs.Whole.{Whole, Shaped, Placed, Ranged, Tied, Small, OutputOrdered};
 ghost use Rattle.circuit.specs.Refused.{FirstRefusal};
 ghost use Rattle.circuit.specs.declared.refusal.Refusal.TheVariants.{TooLarge, BadGate, BadDelay, BadRegister, BadOutput};
 ghost use Rattle.reason.specs.Reason.{TrueOf, TrueOfGate, TrueOfRegister, TrueOfTimes};
 
-use circuit::Refusal;
+use circuit::{Gate, Numbers, Refusal, Register};
 
 mod column;
 mod detail;
@@ -24,110 +25,113 @@ pub struct Reason {
     pub detail: Detail,
 }
 
-// The numbers as lent, before they are known to be a circuit.
-#[derive(Clone, Copy)]
-struct Numbers<'a> {
-    gates: &'a [u32],
-    registers: &'a [u32],
-    times: &'a [u32],
+// The number at `p` in the row of all, which is too large.
+fn large(numbers: Numbers<'_>, p: usize) -> Detail
+    requires shaped { lent numbers Shaped }
+    requires large { lent numbers Small p → ⊥ }
+    ensures { lent numbers.entry TrueOf (TooLarge p) result }
+{
+    let Numbers {
+        gates,
+        registers,
+        times,
+    } = numbers;
+    if p < gates.len() {
+        let column = GateColumn::at(p % 7);
+        let value = gates[p];
+        return Detail::Gate(p / 7, GateDetail::Large(Large { column, value }));
+    }
+    let q = p - gates.len();
+    if q < registers.len() {
+        let column = RegisterColumn::at(q % 3);
+        let value = registers[q];
+        return Detail::Register(q / 3, RegisterDetail::Large(Large { column, value }));
+    }
+    let i = q - registers.len();
+    let column = TimesColumn::at(i);
+    let value = times[i];
+    Detail::Times(TimesDetail::Large(Large { column, value }))
 }
 
-impl Numbers<'_> {
-    // The number at `p` in the row of all, which is too large.
-    fn large(self, p: usize) -> Detail
-        requires seven { length self.gates.now % 7 ≡ 0 }
-        requires three { length self.registers.now % 3 ≡ 0 }
-        requires five { length self.times.now ≡ 5 }
-        requires large { Small self.gates.now self.registers.now self.times.now p → ⊥ }
-        ensures { TrueOf self.entry.gates.now self.entry.registers.now self.entry.times.now (TooLarge p) result }
-    {
-        if p < self.gates.len() {
-            let column = GateColumn::at(p % 7);
-            let value = self.gates[p];
-            return Detail::Gate(p / 7, GateDetail::Large(Large { column, value }));
-        }
-        let q = p - self.gates.len();
-        if q < self.registers.len() {
-            let column = RegisterColumn::at(q % 3);
-            let value = self.registers[q];
-            return Detail::Register(q / 3, RegisterDetail::Large(Large { column, value }));
-        }
-        let i = q - self.registers.len();
-        let column = TimesColumn::at(i);
-        let value = self.times[i];
-        Detail::Times(TimesDetail::Large(Large { column, value }))
+// A gate's input or table that is wrong.
+#[tactic(auto, using(circuit::proofs::Chunks::gate_at))]
+fn gate(numbers: Numbers<'_>, k: usize) -> GateDetail
+    requires within { k < gate_count numbers.gates.now }
+    requires wrong { Placed (register_count numbers.registers.now) numbers.gates.now k → ⊥ }
+    ensures { TrueOfGate numbers.entry.gates.now numbers.entry.registers.now (BadGate k) k result }
+{
+    let below = numbers.registers.len() / 3 + k;
+    let Gate {
+        one,
+        two,
+        table,
+        ..
+    } = Gate::from(numbers.gates.as_chunks().0[k]);
+    if one as usize >= below {
+        return GateDetail::NotBefore {
+            input: Input::First,
+            signal: one,
+        };
     }
-
-    // A gate's input or table that is wrong.
-    fn gate(self, k: usize) -> GateDetail
-        requires within { k < gate_count self.gates.now }
-        requires wrong { Placed (register_count self.registers.now) self.gates.now k → ⊥ }
-        ensures { TrueOfGate self.entry.gates.now self.entry.registers.now (BadGate k) k result }
-    {
-        let at = self.registers.len() / 3 + k;
-        let one = self.gates[7 * k];
-        if one as usize >= at {
-            return GateDetail::NotBefore {
-                input: Input::First,
-                signal: one,
-            };
-        }
-        let two = self.gates[7 * k + 1];
-        if two as usize >= at {
-            return GateDetail::NotBefore {
-                input: Input::Second,
-                signal: two,
-            };
-        }
-        GateDetail::Table(self.gates[7 * k + 2])
-    }
-
-    // A gate's delays that are out of order.
-    fn delay(self, k: usize) -> GateDetail
-        requires within { k < gate_count self.gates.now }
-        requires wrong { Ranged self.gates.now k → ⊥ }
-        ensures { TrueOfGate self.entry.gates.now self.entry.registers.now (BadDelay k) k result }
-    {
-        let (least, greatest) = (self.gates[7 * k + 3], self.gates[7 * k + 4]);
-        if least > greatest {
-            return GateDetail::Delay {
-                input: Input::First,
-                least,
-                greatest,
-            };
-        }
-        let (least, greatest) = (self.gates[7 * k + 5], self.gates[7 * k + 6]);
-        GateDetail::Delay {
+    if two as usize >= below {
+        return GateDetail::NotBefore {
             input: Input::Second,
-            least,
-            greatest,
-        }
+            signal: two,
+        };
     }
+    GateDetail::Table(table)
+}
 
-    // A register's signal that is past the circuit, or its times that are out of order.
-    fn register(self, r: usize) -> RegisterDetail
-        requires within { r < register_count self.registers.now }
-        requires wrong { Tied (signal_count self.gates.now self.registers.now) self.registers.now r → ⊥ }
-        ensures { TrueOfRegister self.entry.gates.now self.entry.registers.now (BadRegister r) r result }
-    {
-        let signal = self.registers[3 * r];
-        if signal as usize >= self.registers.len() / 3 + self.gates.len() / 7 {
-            return RegisterDetail::Signal(signal);
-        }
-        let (early, late) = (self.registers[3 * r + 1], self.registers[3 * r + 2]);
-        RegisterDetail::Clock { early, late }
+// A gate's delays that are out of order.
+#[tactic(auto, using(circuit::proofs::Chunks::gate_at))]
+fn delay(numbers: Numbers<'_>, k: usize) -> GateDetail
+    requires within { k < gate_count numbers.gates.now }
+    requires wrong { Ranged numbers.gates.now k → ⊥ }
+    ensures { TrueOfGate numbers.entry.gates.now numbers.entry.registers.now (BadDelay k) k result }
+{
+    let gate = Gate::from(numbers.gates.as_chunks().0[k]);
+    if gate.least_one > gate.greatest_one {
+        return GateDetail::Delay {
+            input: Input::First,
+            least: gate.least_one,
+            greatest: gate.greatest_one,
+        };
     }
+    GateDetail::Delay {
+        input: Input::Second,
+        least: gate.least_two,
+        greatest: gate.greatest_two,
+    }
+}
 
-    // The output times, which are out of order.
-    fn output(self) -> TimesDetail
-        requires five { length self.times.now ≡ 5 }
-        requires wrong { OutputOrdered self.times.now → ⊥ }
-        ensures { TrueOfTimes self.entry.gates.now self.entry.registers.now self.entry.times.now BadOutput result }
-    {
-        TimesDetail::Output {
-            earliest: self.times[1],
-            latest: self.times[2],
-        }
+// A register's signal that is past the circuit, or its times that are out of order.
+#[tactic(auto, using(circuit::proofs::Chunks::register_at))]
+fn register(numbers: Numbers<'_>, r: usize) -> RegisterDetail
+    requires within { r < register_count numbers.registers.now }
+    requires wrong { Tied (signal_count numbers.gates.now numbers.registers.now) numbers.registers.now r → ⊥ }
+    ensures { TrueOfRegister numbers.entry.gates.now numbers.entry.registers.now (BadRegister r) r result }
+{
+    let signals = numbers.registers.len() / 3 + numbers.gates.len() / 7;
+    let Register {
+        signal,
+        early,
+        late,
+    } = Register::from(numbers.registers.as_chunks().0[r]);
+    if signal as usize >= signals {
+        return RegisterDetail::Signal(signal);
+    }
+    RegisterDetail::Clock { early, late }
+}
+
+// The output times, which are out of order.
+fn output(numbers: Numbers<'_>) -> TimesDetail
+    requires five { length numbers.times.now ≡ 5 }
+    requires wrong { OutputOrdered numbers.times.now → ⊥ }
+    ensures { lent numbers.entry TrueOfTimes BadOutput result }
+{
+    TimesDetail::Output {
+        earliest: numbers.times[1],
+        latest: numbers.times[2],
     }
 }
 
@@ -151,11 +155,11 @@ pub fn explain(gates: &[u32], registers: &[u32], times: &[u32]) -> Option<Reason
         Refusal::TimeNumbers => Detail::TimeNumbers(times.len()),
         Refusal::RegisterCount => Detail::Registers(registers.len() / 3),
         Refusal::GateCount => Detail::Gates(gates.len() / 7),
-        Refusal::TooLarge(p) => numbers.large(p),
-        Refusal::BadGate(k) => Detail::Gate(k, numbers.gate(k)),
-        Refusal::BadDelay(k) => Detail::Gate(k, numbers.delay(k)),
-        Refusal::BadRegister(r) => Detail::Register(r, numbers.register(r)),
-        Refusal::BadOutput => Detail::Times(numbers.output()),
+        Refusal::TooLarge(p) => large(numbers, p),
+        Refusal::BadGate(k) => Detail::Gate(k, gate(numbers, k)),
+        Refusal::BadDelay(k) => Detail::Gate(k, delay(numbers, k)),
+        Refusal::BadRegister(r) => Detail::Register(r, register(numbers, r)),
+        Refusal::BadOutput => Detail::Times(output(numbers)),
         Refusal::NoSignal(s) => Detail::Asked(s),
         Refusal::NoRoom(n) => Detail::Room(n),
     };
