@@ -7,116 +7,14 @@ ghost use Rattle.answer.specs.Said.{PassedIf};
 
 use circuit::Refusal;
 use reason::{Detail, Reason};
-use signoff::{Miss, Verdict};
+use signoff::Verdict;
 use std::alloc::Global;
 use std::fmt;
 use std::fmt::Write;
-use text::{Draft, Miscount};
+use text::Draft;
+use wording::{Missed, Title, TurnedAway};
 
-// The line of the text, counted from 1, that a detail is about: that of a gate, a register or the times, else the one
-// where the circuit began.
-fn line_of(text: &[u8], began: usize, detail: Detail) -> usize {
-    let line = match detail {
-        Detail::LargeGate(k, _, _) => text::line_of(text, b"gate", k),
-        Detail::FirstInput(k, _) => text::line_of(text, b"gate", k),
-        Detail::SecondInput(k, _) => text::line_of(text, b"gate", k),
-        Detail::Table(k, _) => text::line_of(text, b"gate", k),
-        Detail::FirstDelay(k, _, _) => text::line_of(text, b"gate", k),
-        Detail::SecondDelay(k, _, _) => text::line_of(text, b"gate", k),
-        Detail::LargeRegister(r, _, _) => text::line_of(text, b"register", r),
-        Detail::Signal(r, _) => text::line_of(text, b"register", r),
-        Detail::Clock(r, _, _) => text::line_of(text, b"register", r),
-        Detail::LargeTime(_, _) => text::line_of(text, b"times", 0),
-        Detail::Output(_, _) => text::line_of(text, b"times", 0),
-        _ => None,
-    };
-    line.unwrap_or(began)
-}
-
-// A name and a colon, where there is a name.
-fn put_name(out: &mut String, name: &[u8]) -> fmt::Result {
-    if name.is_empty() {
-        return Ok(());
-    }
-    for b in name {
-        out.write_char(*b as char)?;
-    }
-    write!(out, ": ")?;
-    Ok(())
-}
-
-fn put_miscount(out: &mut String, m: Miscount, before: usize) -> fmt::Result {
-    let what = match m.refusal {
-        Refusal::GateNumbers => "a gate has 7 numbers",
-        Refusal::RegisterNumbers => "a register has 3 numbers",
-        _ => "there are 5 times",
-    };
-    let number = m.refusal.number();
-    let place = m.refusal.place();
-    let line = m.line.saturating_add(before);
-    writeln!(
-        out,
-        "turned away by {number} at {place}: {what} (line {line})"
-    )?;
-    Ok(())
-}
-
-fn put_reason(out: &mut String, reason: Reason, line: usize) -> fmt::Result {
-    let number = reason.refusal.number();
-    let place = reason.refusal.place();
-    let detail = reason.detail;
-    writeln!(
-        out,
-        "turned away by {number} at {place}: {detail} (line {line})"
-    )?;
-    Ok(())
-}
-
-// The gates on a path that lent room begins with, as signal numbers, each after a comma but the first.
-fn put_gates(out: &mut String, room: &[u32], path: usize) -> fmt::Result {
-    for (i, signal) in room.iter().enumerate() {
-        if i >= path {
-            break;
-        }
-        if i == 1 {
-            write!(out, " by {signal}")?;
-        } else if i % 2 == 1 {
-            write!(out, ", {signal}")?;
-        }
-    }
-    Ok(())
-}
-
-fn put_miss(out: &mut String, what: &str, miss: Miss, room: &[u32]) -> fmt::Result {
-    let register = miss.register;
-    let arrival = miss.arrival;
-    let limit = miss.limit;
-    write!(out, "{what} at {register}")?;
-    put_gates(out, room, miss.path)?;
-    writeln!(out, ": {arrival} and {limit}")?;
-    Ok(())
-}
-
-fn put_refusal(
-    out: &mut String,
-    draft: &Draft,
-    refusal: Refusal,
-    text: &[u8],
-    before: usize,
-) -> fmt::Result {
-    match reason::explain(&draft.gates, &draft.registers, &draft.times) {
-        Some(reason) => {
-            let line = line_of(text, draft.line, reason.detail).saturating_add(before);
-            put_reason(out, reason, line)
-        }
-        None => {
-            let number = refusal.number();
-            let place = refusal.place();
-            writeln!(out, "turned away by {number} at {place}: room is too short")?;
-            Ok(())
-        }
-    }
-}
+mod wording;
 
 // As many numbers as a path can have: a register, and two for each gate.
 const LONGEST_PATH: usize = 32_769;
@@ -128,41 +26,69 @@ pub struct Said {
     pub passed: bool,
 }
 
-// The word on a circuit whose lines all have their count of numbers, put behind its name.
-fn judge(mut line: String, draft: &Draft, text: &[u8], before: usize) -> Result<Said, fmt::Error>
-    requires { draft.now.miscount ≡ None }
-    ensures { IfOk result (λ a. PassedIf (drafted draft.now) a.passed) }
-{
-    let mut room = [0; LONGEST_PATH];
-    let verdict = match signoff::pass(&draft.gates, &draft.registers, &draft.times, &mut room) {
-        Ok(verdict) => verdict,
-        Err(refusal) => {
-            put_refusal(&mut line, draft, refusal, text, before)?;
-            return Ok(Said {
-                line,
-                passed: false,
-            });
+// A circuit that was read, what it was read from, and the number of lines before that.
+#[derive(Clone, Copy)]
+struct Source<'a> {
+    draft: &'a Draft,
+    text: &'a [u8],
+    before: usize,
+}
+
+impl Source<'_> {
+    // The line that a detail is about: that of a gate, a register or the times, else the one where the circuit began.
+    fn line_of(self, detail: Detail) -> usize {
+        let line = match detail {
+            Detail::Gate(k, _) => text::line_of(self.text, b"gate", k),
+            Detail::Register(r, _) => text::line_of(self.text, b"register", r),
+            Detail::Times(_) => text::line_of(self.text, b"times", 0),
+            _ => None,
+        };
+        line.unwrap_or(self.draft.line).saturating_add(self.before)
+    }
+
+    // The refusal that applies, in detail and with a line; or want of room.
+    fn put_refusal(self, out: &mut String, refusal: Refusal) -> fmt::Result {
+        let draft = self.draft;
+        match reason::explain(&draft.gates, &draft.registers, &draft.times) {
+            Some(
+                Reason {
+                    refusal,
+                    detail: why,
+                },
+            ) => {
+                let line = self.line_of(why);
+                writeln!(out, "{} (line {line})", TurnedAway { refusal, why })?;
+            }
+            None => {
+                let why = "room is too short";
+                writeln!(out, "{}", TurnedAway { refusal, why })?;
+            }
         }
-    };
-    match verdict {
-        Verdict::Passed => {
-            writeln!(line, "passed")?;
-            Ok(Said { line, passed: true })
+        Ok(())
+    }
+
+    // The word on a circuit whose lines all have their count of numbers, put behind its name.
+    fn judge(self, mut line: String) -> Result<Said, fmt::Error>
+        requires { self.draft.now.miscount ≡ None }
+        ensures { IfOk result (λ a. PassedIf (drafted self.entry.draft.now) a.passed) }
+    {
+        let draft = self.draft;
+        let mut room = [0; LONGEST_PATH];
+        let verdict = signoff::pass(&draft.gates, &draft.registers, &draft.times, &mut room);
+        let room = &room;
+        match verdict {
+            Ok(Verdict::Passed) => {
+                writeln!(line, "passed")?;
+                return Ok(Said { line, passed: true });
+            }
+            Ok(Verdict::TooLate(miss)) => writeln!(line, "too late {}", Missed { miss, room })?,
+            Ok(Verdict::TooEarly(miss)) => writeln!(line, "too early {}", Missed { miss, room })?,
+            Err(refusal) => self.put_refusal(&mut line, refusal)?,
         }
-        Verdict::TooLate(miss) => {
-            put_miss(&mut line, "too late", miss, &room)?;
-            Ok(Said {
-                line,
-                passed: false,
-            })
-        }
-        Verdict::TooEarly(miss) => {
-            put_miss(&mut line, "too early", miss, &room)?;
-            Ok(Said {
-                line,
-                passed: false,
-            })
-        }
+        Ok(Said {
+            line,
+            passed: false,
+        })
     }
 }
 
@@ -171,13 +97,19 @@ pub fn answer(heap: Global, draft: &Draft, text: &[u8], before: usize) -> Result
     ensures { IfOk result (λ a. PassedIf (drafted draft.now) a.passed) }
 {
     let mut line = String::new(heap);
-    put_name(&mut line, &draft.name)?;
-    if let Some(m) = draft.miscount {
-        put_miscount(&mut line, m, before)?;
+    write!(line, "{}", Title(&draft.name))?;
+    if let Some(miscount) = draft.miscount {
+        let number = miscount.line.saturating_add(before);
+        writeln!(line, "{} (line {number})", TurnedAway::miscounted(miscount))?;
         return Ok(Said {
             line,
             passed: false,
         });
     }
-    judge(line, draft, text, before)
+    Source {
+        draft,
+        text,
+        before,
+    }
+    .judge(line)
 }

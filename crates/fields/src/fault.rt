@@ -3,6 +3,7 @@ ghost use Rattle.std.specs.Prelude.{◌≡◌};
 ghost use Rattle.fields.specs.declared.fault.Expected.TheVariants.{Memory};
 
 use std::alloc::AllocError;
+use std::fmt;
 
 // What a text should have had.
 #[derive(Clone, Copy, PartialEq, Debug)]
@@ -27,6 +28,23 @@ pub enum Expected {
     Memory,
 }
 
+impl fmt::Display for Expected {
+    fn fmt<W: fmt::Write>(&self, f: &mut fmt::Formatter<W>) -> fmt::Result {
+        f.write_str(match self {
+            Expected::Circuit => "expected a line `circuit` or `circuit NAME`",
+            Expected::Name => "expected at most one name of printable ASCII after `circuit`",
+            Expected::Statement =>
+                "expected a line that begins with `times`, `register`, `gate` or `end`",
+            Expected::Number => "expected a number",
+            Expected::Small => "expected a number below 4294967296",
+            Expected::Table => "expected the name or the number of a table",
+            Expected::Nothing => "expected nothing after `end`",
+            Expected::End => "expected a line `end`; the text ends inside a circuit",
+            Expected::Memory => "memory is short",
+        })
+    }
+}
+
 impl From<AllocError> for Expected {
     ghost from_gives = { λ _ e. e ≡ Memory };
 
@@ -40,4 +58,10 @@ impl From<AllocError> for Expected {
 pub struct Fault {
     pub line: usize,
     pub expected: Expected,
+}
+
+impl fmt::Display for Fault {
+    fn fmt<W: fmt::Write>(&self, f: &mut fmt::Formatter<W>) -> fmt::Result {
+        write!(f, "{}: {}", self.line, self.expected)
+    }
 }

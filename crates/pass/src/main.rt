@@ -1,10 +1,15 @@
 // pass: passes the circuits of files, or names what stands in their way.
 #![tactic(auto)]
 
-use fields::{Expected, Fault};
-use std::io::{Read, Write};
+use answer::Said;
+use command::Command;
+use fields::Fault;
+use std::fs::Files;
+use std::io::Read;
 use std::process::ExitCode;
-use std::{env, fs, io};
+use std::{fmt, fs, io};
+
+mod command;
 
 const USAGE: &str = "usage: pass [--exit-zero] [--help] [--version] FILE...";
 
@@ -33,195 +38,149 @@ status is 1 in any case.";
 
 const VERSION: &str = "pass (muleminute) 0.1.0";
 
-// What was found so far.
-#[derive(Clone, Copy)]
-struct Tally {
+// What is said is written out once it has more bytes than this.
+const COLLECTED: usize = 60_000;
+
+// What was found, from best to worst.
+#[derive(Clone, Copy, PartialEq, Eq, PartialOrd, Ord)]
+enum Outcome {
     // Every circuit was passed.
-    passed: bool,
-    // Every file was read to its end, without a fault, and had a circuit.
-    sound: bool,
+    Passed,
+    // A circuit was not passed.
+    NotPassed,
+    // A file could not be read, has a fault, or has no circuit.
+    Unsound,
 }
 
-fn expected(e: Expected) -> &'static str {
-    match e {
-        Expected::Circuit => "expected a line `circuit` or `circuit NAME`",
-        Expected::Name => "expected at most one name of printable ASCII after `circuit`",
-        Expected::Statement =>
-            "expected a line that begins with `times`, `register`, `gate` or `end`",
-        Expected::Number => "expected a number",
-        Expected::Small => "expected a number below 4294967296",
-        Expected::Table => "expected the name or the number of a table",
-        Expected::Nothing => "expected nothing after `end`",
-        Expected::End => "expected a line `end`; the text ends inside a circuit",
-        Expected::Memory => "memory is short",
+impl Outcome {
+    fn of(said: &Said) -> Outcome {
+        if said.passed {
+            Outcome::Passed
+        } else {
+            Outcome::NotPassed
+        }
+    }
+
+    fn status(self, exit_zero: bool) -> ExitCode {
+        match self {
+            Outcome::Passed => ExitCode::SUCCESS,
+            Outcome::NotPassed if exit_zero => ExitCode::SUCCESS,
+            _ => ExitCode::FAILURE,
+        }
     }
 }
 
-fn read_all(rt: &HostRuntime, path: &str) -> io::Result<Vec<u8>> {
+// Why not all of a file could be answered for.
+#[derive(Drop)]
+enum Flaw {
+    Unreadable(io::Error),
+    Fault(Fault),
+    NoCircuit,
+}
+
+// What stands behind the file's name and a colon.
+impl fmt::Display for Flaw {
+    fn fmt<W: fmt::Write>(&self, f: &mut fmt::Formatter<W>) -> fmt::Result {
+        match self {
+            Flaw::Unreadable(e) => write!(f, " {e}"),
+            Flaw::Fault(fault) => write!(f, "{fault}"),
+            Flaw::NoCircuit => f.write_str(" no circuit: nothing was checked"),
+        }
+    }
+}
+
+fn read_all(rt: &(impl Files + Input + AllocGlobal), path: &str) -> io::Result<Vec<u8>> {
     if path == "-" {
         let mut bytes = Vec::new(rt.alloc());
-        rt.stdin().read_to_end(&mut bytes)?;
+        rt.reader().read_to_end(&mut bytes)?;
         return Ok(bytes);
     }
     fs::read(rt, path)
 }
 
 // Writes out what was collected.
-fn flush(rt: &HostRuntime, out: &mut String) -> io::Result<()> {
-    rt.stdout().write_all(out.as_bytes())?;
+fn flush(rt: &impl Print, out: &mut String) -> io::Result<()> {
+    rt.write_all(out.as_bytes())?;
     out.clear();
     Ok(())
 }
 
-fn fault(rt: &HostRuntime, path: &str, fault: Fault, before: usize) -> io::Result<()> {
-    let line = fault.line.saturating_add(before);
-    let what = expected(fault.expected);
-    eprintln!(rt; "pass: {path}:{line}: {what}")
-}
-
 // The circuits of one text.
 fn pass_text(
-    rt: &HostRuntime,
-    path: &str,
+    rt: &(impl Print + AllocGlobal),
     bytes: &[u8],
-    mut tally: Tally,
-) -> anyhow::Result<Tally> {
+) -> anyhow::Result<Result<Outcome, Flaw>> {
     let heap = rt.alloc();
     let mut out = String::new(heap);
     let mut rest = bytes;
     let mut before: usize = 0;
-    let mut some = false;
-    loop {
-        match text::read(heap, rest) {
-            Ok(Some(read)) => {
-                some = true;
-                let said = answer::answer(heap, &read.draft, rest, before)?;
-                out.push_str(said.line.as_str())?;
-                if !said.passed {
-                    tally.passed = false;
-                }
-                before = before.saturating_add(read.rest.number).saturating_sub(1);
-                rest = read.rest.text;
+    let mut worst = None;
+    let outcome = loop {
+        let read = match text::read(heap, rest) {
+            Ok(Some(read)) => read,
+            Ok(None) => break worst.ok_or(Flaw::NoCircuit),
+            Err(Fault { line, expected }) => {
+                let line = line.saturating_add(before);
+                break Err(Flaw::Fault(Fault { line, expected }));
             }
-            Ok(None) => break,
-            Err(e) => {
-                flush(rt, &mut out)?;
-                fault(rt, path, e, before)?;
-                tally.sound = false;
-                return Ok(tally);
-            }
-        }
-        if out.len() > 60_000 {
+        };
+        let said = answer::answer(heap, &read.draft, rest, before)?;
+        out.push_str(said.line.as_str())?;
+        worst = worst.max(Some(Outcome::of(&said)));
+        before = before.saturating_add(read.rest.number).saturating_sub(1);
+        rest = read.rest.text;
+        if out.len() > COLLECTED {
             flush(rt, &mut out)?;
         }
-    }
+    };
     flush(rt, &mut out)?;
-    if !some {
-        eprintln!(rt; "pass: {path}: no circuit: nothing was checked")?;
-        tally.sound = false;
-    }
-    Ok(tally)
+    Ok(outcome)
 }
 
-fn pass_file(rt: &HostRuntime, path: &str, mut tally: Tally) -> anyhow::Result<Tally> {
-    match read_all(rt, path) {
-        Ok(bytes) => pass_text(rt, path, &bytes, tally),
-        Err(e) => {
-            eprintln!(rt; "pass: {path}: {e}")?;
-            tally.sound = false;
-            Ok(tally)
-        }
-    }
-}
-
-// What the command line asks for.
-#[derive(Clone, Copy)]
-struct Options {
-    help: bool,
-    version: bool,
-    exit_zero: bool,
-    unknown: bool,
-    files: usize,
-}
-
-fn is_option(arg: &str) -> bool {
-    arg.starts_with("-") && arg != "-"
-}
-
-fn with_option(mut o: Options, arg: &str) -> Options {
-    if !is_option(arg) {
-        o.files = o.files.saturating_add(1);
-    } else if arg == "--help" {
-        o.help = true;
-    } else if arg == "--version" {
-        o.version = true;
-    } else if arg == "--exit-zero" {
-        o.exit_zero = true;
-    } else {
-        o.unknown = true;
-    }
-    o
-}
-
-fn parse(rt: &HostRuntime) -> io::Result<Options> {
-    let mut o = Options {
-        help: false,
-        version: false,
-        exit_zero: false,
-        unknown: false,
-        files: 0,
+fn pass_file(
+    rt: &(impl Files + Input + Print + Eprint + AllocGlobal),
+    path: &str,
+) -> anyhow::Result<Outcome> {
+    let outcome = match read_all(rt, path) {
+        Ok(bytes) => pass_text(rt, &bytes)?,
+        Err(e) => Err(Flaw::Unreadable(e)),
     };
-    for arg in env::args(rt)?.skip(1) {
-        let arg = arg.as_str();
-        o = with_option(o, arg);
-        if o.unknown {
-            eprintln!(rt; "pass: unknown option {arg}")?;
-            return Ok(o);
+    match outcome {
+        Ok(outcome) => Ok(outcome),
+        Err(flaw) => {
+            eprintln!(rt; "pass: {path}:{flaw}")?;
+            Ok(Outcome::Unsound)
         }
     }
-    Ok(o)
 }
 
-fn pass_files(rt: &HostRuntime) -> anyhow::Result<Tally> {
-    let mut tally = Tally {
-        passed: true,
-        sound: true,
-    };
-    for arg in env::args(rt)?.skip(1) {
-        let path = arg.as_str();
-        if !is_option(path) {
-            tally = pass_file(rt, path, tally)?;
+fn run(rt: &HostRuntime) -> anyhow::Result<ExitCode> {
+    match Command::read(rt)? {
+        Command::Help => {
+            println!(rt; "{USAGE}\n\n{HELP}")?;
+            Ok(ExitCode::SUCCESS)
+        }
+        Command::Version => {
+            println!(rt; "{VERSION}")?;
+            Ok(ExitCode::SUCCESS)
+        }
+        Command::Usage => {
+            eprintln!(rt; "{USAGE}")?;
+            Ok(ExitCode::FAILURE)
+        }
+        Command::Pass { files, exit_zero } => {
+            let mut worst = Outcome::Passed;
+            for path in &files {
+                worst = worst.max(pass_file(rt, path.as_str())?);
+            }
+            Ok(worst.status(exit_zero))
         }
     }
-    Ok(tally)
-}
-
-// Whether the program ends with status 0.
-fn run(rt: &HostRuntime) -> anyhow::Result<bool> {
-    let o = parse(rt)?;
-    if o.help {
-        println!(rt; "{USAGE}\n\n{HELP}")?;
-        return Ok(true);
-    }
-    if o.version {
-        println!(rt; "{VERSION}")?;
-        return Ok(true);
-    }
-    if o.unknown || o.files == 0 {
-        eprintln!(rt; "{USAGE}")?;
-        return Ok(false);
-    }
-    let tally = pass_files(rt)?;
-    Ok(tally.sound && (tally.passed || o.exit_zero))
 }
 
 fn main(rt: HostRuntime) -> ExitCode {
-    match run(&rt) {
-        Ok(true) => ExitCode::SUCCESS,
-        Ok(false) => ExitCode::FAILURE,
-        Err(e) => {
-            let _ = eprintln!(rt; "pass: {e}");
-            ExitCode::FAILURE
-        }
-    }
+    run(&rt).unwrap_or_else(|e| {
+        let _ = eprintln!(rt; "pass: {e}");
+        ExitCode::FAILURE
+    })
 }

@@ -3,8 +3,63 @@ use Rattle.std.specs.Prelude.{◌≡◌, ℕ, ◌+◌, ◌*◌, ◌%◌, ◌<◌
 use Rattle.circuit.specs.Lent.{gate_count, register_count, signal_count, gate_in, takes, early, late, output_early, output_late}
 use Rattle.circuit.specs.declared.refusal.Refusal.{Refusal}
 use Rattle.circuit.specs.declared.refusal.Refusal.TheVariants as refusal
+use Rattle.reason.specs.declared.column.Input.TheVariants.{First, Second}
+use Rattle.reason.specs.declared.column.GateColumn.{GateColumn}
+use Rattle.reason.specs.declared.column.GateColumn.TheVariants.{Input, Table, Least, Greatest}
+use Rattle.reason.specs.declared.column.RegisterColumn.{RegisterColumn}
+use Rattle.reason.specs.declared.column.RegisterColumn.TheVariants.{Signal, Early, Late}
+use Rattle.reason.specs.declared.column.TimesColumn.{TimesColumn}
+use Rattle.reason.specs.declared.column.TimesColumn.TheVariants.{Period, Earliest, Latest, Setup, Hold}
+use Rattle.reason.specs.declared.detail.GateDetail.{GateDetail}
+use Rattle.reason.specs.declared.detail.GateDetail.TheVariants as gate
+use Rattle.reason.specs.declared.detail.RegisterDetail.{RegisterDetail}
+use Rattle.reason.specs.declared.detail.RegisterDetail.TheVariants as register
+use Rattle.reason.specs.declared.detail.TimesDetail.{TimesDetail}
+use Rattle.reason.specs.declared.detail.TimesDetail.TheVariants as time
 use Rattle.reason.specs.declared.detail.Detail.{Detail}
-use Rattle.reason.specs.declared.detail.Detail.TheVariants.{GateNumbers, RegisterNumbers, TimeNumbers, Registers, Gates, LargeGate, LargeRegister, LargeTime, FirstInput, SecondInput, Table, FirstDelay, SecondDelay, Signal, Clock, Output, Asked, Room}
+use Rattle.reason.specs.declared.detail.Detail.TheVariants.{GateNumbers, RegisterNumbers, TimeNumbers, Registers, Gates, Gate, Register, Times, Asked, Room}
+
+-- where each number of a gate, of a register and of the times stands among them
+abbrev pub gate_place : GateColumn → ℕ
+gate_place (Input First) = 0
+gate_place (Input Second) = 1
+gate_place Table = 2
+gate_place (Least First) = 3
+gate_place (Greatest First) = 4
+gate_place (Least Second) = 5
+gate_place (Greatest Second) = 6
+
+abbrev pub register_place : RegisterColumn → ℕ
+register_place Signal = 0
+register_place Early = 1
+register_place Late = 2
+
+abbrev pub times_place : TimesColumn → ℕ
+times_place Period = 0
+times_place Earliest = 1
+times_place Latest = 2
+times_place Setup = 3
+times_place Hold = 4
+
+-- a detail of gate k is true of the numbers lent, and is one of the refusal e
+abbrev pub TrueOfGate : (gates registers : List ℕ) (e : Refusal) (k : ℕ) → GateDetail → Type 0
+TrueOfGate gates registers e k (gate.Large x) = (e ≡ refusal.TooLarge (7 * k + gate_place x.column)) × (k < gate_count gates) × (x.value ≡ slice_index gates (7 * k + gate_place x.column)) × (1000000 < x.value)
+TrueOfGate gates registers e k (gate.NotBefore First s) = (e ≡ refusal.BadGate k) × (s ≡ (gate_in gates k).one) × (register_count registers + k ≤ s)
+TrueOfGate gates registers e k (gate.NotBefore Second s) = (e ≡ refusal.BadGate k) × (s ≡ (gate_in gates k).two) × (register_count registers + k ≤ s)
+TrueOfGate gates registers e k (gate.Table t) = (e ≡ refusal.BadGate k) × (t ≡ (gate_in gates k).table) × (15 < t)
+TrueOfGate gates registers e k (gate.Delay First a b) = (e ≡ refusal.BadDelay k) × (a ≡ (gate_in gates k).least_one) × (b ≡ (gate_in gates k).greatest_one) × (b < a)
+TrueOfGate gates registers e k (gate.Delay Second a b) = (e ≡ refusal.BadDelay k) × (a ≡ (gate_in gates k).least_two) × (b ≡ (gate_in gates k).greatest_two) × (b < a)
+
+-- the same of register r
+abbrev pub TrueOfRegister : (gates registers : List ℕ) (e : Refusal) (r : ℕ) → RegisterDetail → Type 0
+TrueOfRegister gates registers e r (register.Large x) = (e ≡ refusal.TooLarge (length gates + (3 * r + register_place x.column))) × (r < register_count registers) × (x.value ≡ slice_index registers (3 * r + register_place x.column)) × (1000000 < x.value)
+TrueOfRegister gates registers e r (register.Signal s) = (e ≡ refusal.BadRegister r) × (s ≡ takes registers r) × (signal_count gates registers ≤ s)
+TrueOfRegister gates registers e r (register.Clock a b) = (e ≡ refusal.BadRegister r) × (a ≡ early registers r) × (b ≡ late registers r) × (b < a)
+
+-- the same of the times
+abbrev pub TrueOfTimes : (gates registers times : List ℕ) (e : Refusal) → TimesDetail → Type 0
+TrueOfTimes gates registers times e (time.Large x) = (e ≡ refusal.TooLarge (length gates + length registers + times_place x.column)) × (times_place x.column < length times) × (x.value ≡ slice_index times (times_place x.column)) × (1000000 < x.value)
+TrueOfTimes gates registers times e (time.Output a b) = (e ≡ refusal.BadOutput) × (a ≡ output_early times) × (b ≡ output_late times) × (b < a)
 
 -- a detail is true of the numbers lent, and is one of the refusal e
 abbrev pub TrueOf : (gates registers times : List ℕ) (e : Refusal) → Detail → Type 0
@@ -13,16 +68,8 @@ TrueOf gates registers times e (RegisterNumbers n) = (e ≡ refusal.RegisterNumb
 TrueOf gates registers times e (TimeNumbers n) = (e ≡ refusal.TimeNumbers) × (n ≡ length times) × (n ≢ 5)
 TrueOf gates registers times e (Registers n) = (e ≡ refusal.RegisterCount) × (n ≡ register_count registers)
 TrueOf gates registers times e (Gates n) = (e ≡ refusal.GateCount) × (n ≡ gate_count gates)
-TrueOf gates registers times e (LargeGate k c v) = (e ≡ refusal.TooLarge (7 * k + c)) × (c < 7) × (k < gate_count gates) × (v ≡ slice_index gates (7 * k + c)) × (1000000 < v)
-TrueOf gates registers times e (LargeRegister r c v) = (e ≡ refusal.TooLarge (length gates + (3 * r + c))) × (c < 3) × (r < register_count registers) × (v ≡ slice_index registers (3 * r + c)) × (1000000 < v)
-TrueOf gates registers times e (LargeTime c v) = (e ≡ refusal.TooLarge (length gates + length registers + c)) × (c < length times) × (v ≡ slice_index times c) × (1000000 < v)
-TrueOf gates registers times e (FirstInput k s) = (e ≡ refusal.BadGate k) × (s ≡ (gate_in gates k).one) × (register_count registers + k ≤ s)
-TrueOf gates registers times e (SecondInput k s) = (e ≡ refusal.BadGate k) × (s ≡ (gate_in gates k).two) × (register_count registers + k ≤ s)
-TrueOf gates registers times e (Table k t) = (e ≡ refusal.BadGate k) × (t ≡ (gate_in gates k).table) × (15 < t)
-TrueOf gates registers times e (FirstDelay k a b) = (e ≡ refusal.BadDelay k) × (a ≡ (gate_in gates k).least_one) × (b ≡ (gate_in gates k).greatest_one) × (b < a)
-TrueOf gates registers times e (SecondDelay k a b) = (e ≡ refusal.BadDelay k) × (a ≡ (gate_in gates k).least_two) × (b ≡ (gate_in gates k).greatest_two) × (b < a)
-TrueOf gates registers times e (Signal r s) = (e ≡ refusal.BadRegister r) × (s ≡ takes registers r) × (signal_count gates registers ≤ s)
-TrueOf gates registers times e (Clock r a b) = (e ≡ refusal.BadRegister r) × (a ≡ early registers r) × (b ≡ late registers r) × (b < a)
-TrueOf gates registers times e (Output a b) = (e ≡ refusal.BadOutput) × (a ≡ output_early times) × (b ≡ output_late times) × (b < a)
+TrueOf gates registers times e (Gate k x) = TrueOfGate gates registers e k x
+TrueOf gates registers times e (Register r x) = TrueOfRegister gates registers e r x
+TrueOf gates registers times e (Times x) = TrueOfTimes gates registers times e x
 TrueOf gates registers times e (Asked s) = e ≡ refusal.NoSignal s
 TrueOf gates registers times e (Room n) = e ≡ refusal.NoRoom n

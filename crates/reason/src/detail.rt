@@ -1,4 +1,5 @@
 // What exactly is wrong with numbers that are turned away.
+use crate::column::{GateColumn, Input, RegisterColumn, TimesColumn};
 
 #[derive(Clone, Copy)]
 pub enum Detail {
@@ -12,30 +13,55 @@ pub enum Detail {
     Registers(usize),
     // So many gates.
     Gates(usize),
-    // A gate's number in this column, from 0 to 6, is this one.
-    LargeGate(usize, usize, u32),
-    // A register's number in this column, from 0 to 2, is this one.
-    LargeRegister(usize, usize, u32),
-    // The time in this column, from 0 to 4, is this one.
-    LargeTime(usize, u32),
-    // A gate's first input is this signal.
-    FirstInput(usize, u32),
-    // A gate's second input is this signal.
-    SecondInput(usize, u32),
-    // A gate's table is this one.
-    Table(usize, u32),
-    // A gate's least and greatest delay of its first input.
-    FirstDelay(usize, u32, u32),
-    // A gate's least and greatest delay of its second input.
-    SecondDelay(usize, u32, u32),
-    // A register takes this signal.
-    Signal(usize, u32),
-    // A register's early and late time.
-    Clock(usize, u32, u32),
-    // The earliest and latest output time.
-    Output(u32, u32),
+    // What is wrong with this gate.
+    Gate(usize, GateDetail),
+    // What is wrong with this register.
+    Register(usize, RegisterDetail),
+    // What is wrong with the times.
+    Times(TimesDetail),
     // This signal was asked for.
     Asked(usize),
     // Room for so many is needed.
     Room(usize),
+}
+
+// A number that is too large, and which of its gate, its register or the times it is.
+#[derive(Clone, Copy)]
+pub struct Large<C> {
+    pub column: C,
+    pub value: u32,
+}
+
+#[derive(Clone, Copy)]
+pub enum GateDetail {
+    Large(Large<GateColumn>),
+    // An input takes a signal that does not come before the gate.
+    NotBefore {
+        input: Input,
+        signal: u32,
+    },
+    // The table's number.
+    Table(u32),
+    // The least and greatest delay of an input.
+    Delay {
+        input: Input,
+        least: u32,
+        greatest: u32,
+    },
+}
+
+#[derive(Clone, Copy)]
+pub enum RegisterDetail {
+    Large(Large<RegisterColumn>),
+    // The signal that it takes.
+    Signal(u32),
+    // Its early and late time.
+    Clock { early: u32, late: u32 },
+}
+
+#[derive(Clone, Copy)]
+pub enum TimesDetail {
+    Large(Large<TimesColumn>),
+    // The earliest and latest output time.
+    Output { earliest: u32, latest: u32 },
 }

@@ -1,19 +1,22 @@
 // Why numbers are turned away: the first refusal that applies, and what exactly is wrong.
 #![tactic(auto)]
 
-ghost use Rattle.std.specs.Prelude.{◌≡◌, ℕ, ◌+◌, ◌%◌, ◌<◌, length, MatchOption};
+ghost use Rattle.std.specs.Prelude.{◌≡◌, ◌<◌, length, MatchOption};
+ghost use Rattle.circuit.specs.Checked.{lent};
 ghost use Rattle.circuit.specs.Lent.{gate_count, register_count, signal_count};
-ghost use Rattle.circuit.specs.Whole.{Whole, Placed, Ranged, Tied, Small, OutputOrdered};
+ghost use Rattle.circuit.specs.Whole.{Whole, Shaped, Placed, Ranged, Tied, Small, OutputOrdered};
 ghost use Rattle.circuit.specs.Refused.{FirstRefusal};
 ghost use Rattle.circuit.specs.declared.refusal.Refusal.TheVariants.{TooLarge, BadGate, BadDelay, BadRegister, BadOutput};
-ghost use Rattle.reason.specs.Reason.{TrueOf};
+ghost use Rattle.reason.specs.Reason.{TrueOf, TrueOfGate, TrueOfRegister, TrueOfTimes};
 
-use circuit::Refusal;
+use circuit::{Gate, Numbers, Refusal, Register};
 
+mod column;
 mod detail;
 mod wording;
 
-pub use detail::Detail;
+pub use column::{GateColumn, Input, RegisterColumn, TimesColumn};
+pub use detail::{Detail, GateDetail, Large, RegisterDetail, TimesDetail};
 
 // A refusal, and what exactly is wrong.
 #[derive(Clone, Copy)]
@@ -22,82 +25,129 @@ pub struct Reason {
     pub detail: Detail,
 }
 
-fn large(gates: &[u32], registers: &[u32], times: &[u32], p: usize) -> Detail
-    requires seven { length gates.now % 7 ≡ 0 }
-    requires three { length registers.now % 3 ≡ 0 }
-    requires large { Small gates.now registers.now times.now p → ⊥ }
-    ensures { TrueOf gates.now registers.now times.now (TooLarge p) result }
+// The number at `p` in the row of all, which is too large.
+fn large(numbers: Numbers<'_>, p: usize) -> Detail
+    requires shaped { lent numbers Shaped }
+    requires large { lent numbers Small p → ⊥ }
+    ensures { lent numbers.entry TrueOf (TooLarge p) result }
 {
+    let Numbers {
+        gates,
+        registers,
+        times,
+    } = numbers;
     if p < gates.len() {
-        return Detail::LargeGate(p / 7, p % 7, gates[p]);
+        let column = GateColumn::at(p % 7);
+        let value = gates[p];
+        return Detail::Gate(p / 7, GateDetail::Large(Large { column, value }));
     }
     let q = p - gates.len();
     if q < registers.len() {
-        return Detail::LargeRegister(q / 3, q % 3, registers[q]);
+        let column = RegisterColumn::at(q % 3);
+        let value = registers[q];
+        return Detail::Register(q / 3, RegisterDetail::Large(Large { column, value }));
     }
     let i = q - registers.len();
-    Detail::LargeTime(i, times[i])
+    let column = TimesColumn::at(i);
+    let value = times[i];
+    Detail::Times(TimesDetail::Large(Large { column, value }))
 }
 
-fn gate(gates: &[u32], registers: &[u32], times: &[u32], k: usize) -> Detail
-    requires within { k < gate_count gates.now }
-    requires wrong { Placed (register_count registers.now) gates.now k → ⊥ }
-    ensures { TrueOf gates.now registers.now times.now (BadGate k) result }
+// A gate's input or table that is wrong.
+#[tactic(auto, using(circuit::proofs::Chunks::gate_at))]
+fn gate(numbers: Numbers<'_>, k: usize) -> GateDetail
+    requires within { k < gate_count numbers.gates.now }
+    requires wrong { Placed (register_count numbers.registers.now) numbers.gates.now k → ⊥ }
+    ensures { TrueOfGate numbers.entry.gates.now numbers.entry.registers.now (BadGate k) k result }
 {
-    let at = registers.len() / 3 + k;
-    let one = gates[7 * k];
-    if one as usize >= at {
-        return Detail::FirstInput(k, one);
+    let below = numbers.registers.len() / 3 + k;
+    let Gate {
+        one,
+        two,
+        table,
+        ..
+    } = Gate::from(numbers.gates.as_chunks().0[k]);
+    if one as usize >= below {
+        return GateDetail::NotBefore {
+            input: Input::First,
+            signal: one,
+        };
     }
-    let two = gates[7 * k + 1];
-    if two as usize >= at {
-        return Detail::SecondInput(k, two);
+    if two as usize >= below {
+        return GateDetail::NotBefore {
+            input: Input::Second,
+            signal: two,
+        };
     }
-    Detail::Table(k, gates[7 * k + 2])
+    GateDetail::Table(table)
 }
 
-fn delay(gates: &[u32], registers: &[u32], times: &[u32], k: usize) -> Detail
-    requires within { k < gate_count gates.now }
-    requires wrong { Ranged gates.now k → ⊥ }
-    ensures { TrueOf gates.now registers.now times.now (BadDelay k) result }
+// A gate's delays that are out of order.
+#[tactic(auto, using(circuit::proofs::Chunks::gate_at))]
+fn delay(numbers: Numbers<'_>, k: usize) -> GateDetail
+    requires within { k < gate_count numbers.gates.now }
+    requires wrong { Ranged numbers.gates.now k → ⊥ }
+    ensures { TrueOfGate numbers.entry.gates.now numbers.entry.registers.now (BadDelay k) k result }
 {
-    let (least, greatest) = (gates[7 * k + 3], gates[7 * k + 4]);
-    if least > greatest {
-        return Detail::FirstDelay(k, least, greatest);
+    let gate = Gate::from(numbers.gates.as_chunks().0[k]);
+    if gate.least_one > gate.greatest_one {
+        return GateDetail::Delay {
+            input: Input::First,
+            least: gate.least_one,
+            greatest: gate.greatest_one,
+        };
     }
-    Detail::SecondDelay(k, gates[7 * k + 5], gates[7 * k + 6])
+    GateDetail::Delay {
+        input: Input::Second,
+        least: gate.least_two,
+        greatest: gate.greatest_two,
+    }
 }
 
-fn register(gates: &[u32], registers: &[u32], times: &[u32], r: usize) -> Detail
-    requires within { r < register_count registers.now }
-    requires wrong { Tied (signal_count gates.now registers.now) registers.now r → ⊥ }
-    ensures { TrueOf gates.now registers.now times.now (BadRegister r) result }
+// A register's signal that is past the circuit, or its times that are out of order.
+#[tactic(auto, using(circuit::proofs::Chunks::register_at))]
+fn register(numbers: Numbers<'_>, r: usize) -> RegisterDetail
+    requires within { r < register_count numbers.registers.now }
+    requires wrong { Tied (signal_count numbers.gates.now numbers.registers.now) numbers.registers.now r → ⊥ }
+    ensures { TrueOfRegister numbers.entry.gates.now numbers.entry.registers.now (BadRegister r) r result }
 {
-    let signal = registers[3 * r];
-    if signal as usize >= registers.len() / 3 + gates.len() / 7 {
-        return Detail::Signal(r, signal);
+    let signals = numbers.registers.len() / 3 + numbers.gates.len() / 7;
+    let Register {
+        signal,
+        early,
+        late,
+    } = Register::from(numbers.registers.as_chunks().0[r]);
+    if signal as usize >= signals {
+        return RegisterDetail::Signal(signal);
     }
-    Detail::Clock(r, registers[3 * r + 1], registers[3 * r + 2])
+    RegisterDetail::Clock { early, late }
 }
 
-fn output(gates: &[u32], registers: &[u32], times: &[u32]) -> Detail
-    requires five { length times.now ≡ 5 }
-    requires wrong { OutputOrdered times.now → ⊥ }
-    ensures { TrueOf gates.now registers.now times.now BadOutput result }
+// The output times, which are out of order.
+fn output(numbers: Numbers<'_>) -> TimesDetail
+    requires five { length numbers.times.now ≡ 5 }
+    requires wrong { OutputOrdered numbers.times.now → ⊥ }
+    ensures { lent numbers.entry TrueOfTimes BadOutput result }
 {
-    Detail::Output(times[1], times[2])
+    TimesDetail::Output {
+        earliest: numbers.times[1],
+        latest: numbers.times[2],
+    }
 }
 
 // Why numbers are turned away, or None where they are a circuit.
+#[tactic(auto, using(circuit::proofs::Order::shaped_before))]
 pub fn explain(gates: &[u32], registers: &[u32], times: &[u32]) -> Option<Reason>
     ensures { MatchOption result
         (Whole gates.now registers.now times.now)
         (λ x. FirstRefusal gates.now registers.now times.now x.refusal
         × TrueOf gates.now registers.now times.now x.refusal x.detail) }
 {
-    let refusal = match circuit::look(gates, registers, times) {
-        Ok(()) => return None,
-        Err(refusal) => refusal,
+    let refusal = circuit::look(gates, registers, times).err()?;
+    let numbers = Numbers {
+        gates,
+        registers,
+        times,
     };
     let detail = match refusal {
         Refusal::GateNumbers => Detail::GateNumbers(gates.len()),
@@ -105,11 +155,11 @@ pub fn explain(gates: &[u32], registers: &[u32], times: &[u32]) -> Option<Reason
         Refusal::TimeNumbers => Detail::TimeNumbers(times.len()),
         Refusal::RegisterCount => Detail::Registers(registers.len() / 3),
         Refusal::GateCount => Detail::Gates(gates.len() / 7),
-        Refusal::TooLarge(p) => large(gates, registers, times, p),
-        Refusal::BadGate(k) => gate(gates, registers, times, k),
-        Refusal::BadDelay(k) => delay(gates, registers, times, k),
-        Refusal::BadRegister(r) => register(gates, registers, times, r),
-        Refusal::BadOutput => output(gates, registers, times),
+        Refusal::TooLarge(p) => large(numbers, p),
+        Refusal::BadGate(k) => Detail::Gate(k, gate(numbers, k)),
+        Refusal::BadDelay(k) => Detail::Gate(k, delay(numbers, k)),
+        Refusal::BadRegister(r) => Detail::Register(r, register(numbers, r)),
+        Refusal::BadOutput => Detail::Times(output(numbers)),
         Refusal::NoSignal(s) => Detail::Asked(s),
         Refusal::NoRoom(n) => Detail::Room(n),
     };

@@ -2,4 +2,4 @@ use Rattle.std.proofs.Common.{length}
 use Rattle.pass.proofs.pass_text.Given as goal
 
 abbrev pub decreases-loop-read : goal.decreases-loop-read
-decreases-loop-read l = length l.rest
+decreases-loop-read g l = length l.rest

@@ -1,0 +1,69 @@
+// The words on a circuit.
+use circuit::Refusal;
+use signoff::Miss;
+use std::fmt;
+use std::fmt::Write;
+use text::Miscount;
+
+// A name and a colon, where there is a name.
+#[derive(Clone, Copy)]
+pub(crate) struct Title<'a>(pub(crate) &'a [u8]);
+
+impl fmt::Display for Title<'_> {
+    fn fmt<W: fmt::Write>(&self, f: &mut fmt::Formatter<W>) -> fmt::Result {
+        if self.0.is_empty() {
+            return Ok(());
+        }
+        for b in self.0 {
+            f.write_char(*b as char)?;
+        }
+        f.write_str(": ")
+    }
+}
+
+// A refusal, and why it applies.
+#[derive(Clone, Copy)]
+pub(crate) struct TurnedAway<D> {
+    pub(crate) refusal: Refusal,
+    pub(crate) why: D,
+}
+
+impl TurnedAway<&'static str> {
+    // For a line that has another count of numbers than it should.
+    pub(crate) fn miscounted(miscount: Miscount) -> Self {
+        let refusal = miscount.refusal;
+        let why = match refusal {
+            Refusal::GateNumbers => "a gate has 7 numbers",
+            Refusal::RegisterNumbers => "a register has 3 numbers",
+            _ => "there are 5 times",
+        };
+        TurnedAway { refusal, why }
+    }
+}
+
+impl<D: fmt::Display> fmt::Display for TurnedAway<D> {
+    fn fmt<W: fmt::Write>(&self, f: &mut fmt::Formatter<W>) -> fmt::Result {
+        let (number, place) = (self.refusal.number(), self.refusal.place());
+        write!(f, "turned away by {number} at {place}: {}", self.why)
+    }
+}
+
+// A register that misses its time, with the lent room that begins with its path: a source, then of each gate its signal and the
+// input that the path comes in by.
+#[derive(Clone, Copy)]
+pub(crate) struct Missed<'a> {
+    pub(crate) miss: Miss,
+    pub(crate) room: &'a [u32],
+}
+
+impl fmt::Display for Missed<'_> {
+    fn fmt<W: fmt::Write>(&self, f: &mut fmt::Formatter<W>) -> fmt::Result {
+        write!(f, "at {}", self.miss.register)?;
+        let gates = self.room.iter().take(self.miss.path).skip(1).step_by(2);
+        for (i, gate) in gates.enumerate() {
+            let before = if i == 0 { " by " } else { ", " };
+            write!(f, "{before}{gate}")?;
+        }
+        write!(f, ": {} and {}", self.miss.arrival, self.miss.limit)
+    }
+}
