@@ -38,7 +38,8 @@ fn first_large(times: &[u64], n: usize) -> Option<usize>
 }
 
 // The latest and the earliest time of every signal, over the times of sources with which both slices begin: there are as
-// many as the first slice is longer than there are gates, and no fewer than registers.
+// many as the first slice is longer than there are gates, and no fewer than registers. They are two slices, as C lends
+// them.
 pub fn fill(circuit: Circuit<'_>, latest: &mut [u64], earliest: &mut [u64]) -> Result<(), Refusal>
     ensures { MatchResult result
         (λ _. OverSources Late (length latest.old - gates_of circuit.entry) circuit.entry.gates.now latest.old latest.new

@@ -144,7 +144,8 @@ fn look_at_registers(numbers: Numbers<'_>) -> Result<(), Refusal>
     Ok(())
 }
 
-// Whether three lists of numbers are a circuit, or the first reason why they are not.
+// Whether three lists of numbers are a circuit, or the first reason why they are not. They are lent as three slices, as C
+// lends them.
 pub fn look(gates: &[u32], registers: &[u32], times: &[u32]) -> Result<(), Refusal>
     ensures { MatchResult result (λ _. Whole gates.now registers.now times.now) (λ e. FirstRefusal gates.now registers.now times.now e) }
 {

@@ -5,7 +5,7 @@ ghost use Rattle.circuit.specs.Refused.{number_of, place_of};
 use crate::refusal::Refusal;
 
 impl Refusal {
-    // Its number in the list of refusals.
+    // Its number in the list of refusals, which is fixed: what is printed, and what C is answered.
     pub fn number(self) -> u32
         ensures { result ≡ number_of self }
     {

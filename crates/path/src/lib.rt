@@ -11,7 +11,8 @@ ghost use Rattle.path.specs.Path.{input, by_second, told_to, written, BeginsWith
 use arrival::{Arrivals, Edge};
 use circuit::{Gate, Refusal};
 
-// The input by which a gate's time is reached, the first if it is by both, and the signal there.
+// The input by which a gate's time is reached, the first if it is by both, and the signal there. A path is written with 0
+// or 1 for the input, so it is a flag.
 #[derive(Clone, Copy)]
 struct Step {
     second: bool,

@@ -70,6 +70,7 @@ fn first_missed(a: Arrivals<'_, '_>, edge: Edge) -> Option<usize>
 {
     let n = a.circuit.register_count();
     let mut r = 0;
+    // Left with its value, as is wanted of this search.
     loop {
         if r == n {
             break None;
@@ -128,6 +129,7 @@ pub fn pass<'a>(
         registers,
         times,
     })?;
+    // As long as any circuit needs, and no heap: passing cannot want memory.
     let mut latest = [0; MOST_SIGNALS];
     let mut earliest = [0; MOST_SIGNALS];
     fill_from_registers(circuit, &mut latest, &mut earliest)?;

@@ -29,7 +29,7 @@ fn fill<'a>(
 }
 
 // Looks at a circuit once and then fills in all of its arrival times so many times; answers the number of the refusal, 0
-// if there is none.
+// if there is none: C has no `Result`.
 #[unsafe(no_mangle)]
 pub extern "C" fn muleminute_fill<'a>(
     gates: &'a [u32],
