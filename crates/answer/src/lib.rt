@@ -16,7 +16,7 @@ use wording::{Missed, Title, TurnedAway};
 
 mod wording;
 
-// As many numbers as a path can have: a register, and two for each gate.
+// As many numbers as a path can have: a register, and two for each gate. They are lent, so that a path needs no memory.
 const LONGEST_PATH: usize = 32_769;
 
 // The line that is said of a circuit, and whether it is passed.

@@ -48,8 +48,8 @@ impl<D: fmt::Display> fmt::Display for TurnedAway<D> {
     }
 }
 
-// A register that misses its time, with the lent room that begins with its path: a source, then of each gate its signal and the
-// input that the path comes in by.
+// A register that misses its time, with the lent room that begins with its path: a source, then of each gate its signal
+// and the input that the path comes in by.
 #[derive(Clone, Copy)]
 pub(crate) struct Missed<'a> {
     pub(crate) miss: Miss,

@@ -25,7 +25,7 @@ pub struct Reason {
     pub detail: Detail,
 }
 
-// The number at `p` in the row of all, which is too large.
+// The number at `p` in the row of all, which is too large. The list of refusals counts such places by index.
 fn large(numbers: Numbers<'_>, p: usize) -> Detail
     requires shaped { lent numbers Shaped }
     requires large { lent numbers Small p → ⊥ }
@@ -149,6 +149,7 @@ pub fn explain(gates: &[u32], registers: &[u32], times: &[u32]) -> Option<Reason
         registers,
         times,
     };
+    // Counts are by division, since these numbers need not be whole gates and registers.
     let detail = match refusal {
         Refusal::GateNumbers => Detail::GateNumbers(gates.len()),
         Refusal::RegisterNumbers => Detail::RegisterNumbers(registers.len()),
