@@ -2,7 +2,7 @@
 use Rattle.std.proofs.Common.{◌≡◌, ℕ, zero, suc, ◌+◌, ◌*◌, ◌<◌, List, [], get_or, drop, ◌∙◌, lit<, add-zero, arith}
 use Rattle.std.proofs.lemmas.List.{get_or-take, get_or-drop}
 use Rattle.std.specs.Simd.{first_chunks}
-use Rattle.circuit.specs.Lent.{gate_count, gate_in, gate_of, register_count, register_in, register_of}
+use Rattle.circuit.specs.Lent.{gate_in, gate_of, register_in, register_of}
 
 -- number j of row i, of k rows of n numbers, stands at n * i + j
 pub at_row : (n k : ℕ) (xs : List ℕ) (i j : ℕ) → i < k → j < n → get_or (get_or (first_chunks n k xs) i []) j 0 ≡ get_or xs (n * i + j) 0
@@ -18,9 +18,3 @@ gate_like row xs k at = rw (at 0 (lit< tt), at 1 (lit< tt), at 2 (lit< tt), at 3
 
 pub register_like : (row xs : List ℕ) (r : ℕ) → ((j : ℕ) → j < 3 → get_or row j 0 ≡ get_or xs (3 * r + j) 0) → register_of row ≡ register_in xs r
 register_like row xs r at = rw (at 0 (lit< tt), at 1 (lit< tt), at 2 (lit< tt), add-zero)
-
-pub gate_at : (xs : List ℕ) (k : ℕ) → k < gate_count xs → gate_of (get_or (first_chunks 7 (gate_count xs) xs) k []) ≡ gate_in xs k
-gate_at xs k h = gate_like _ xs k (λ j l. at_row 7 (gate_count xs) xs k j h l)
-
-pub register_at : (xs : List ℕ) (r : ℕ) → r < register_count xs → register_of (get_or (first_chunks 3 (register_count xs) xs) r []) ≡ register_in xs r
-register_at xs r h = register_like _ xs r (λ j l. at_row 3 (register_count xs) xs r j h l)

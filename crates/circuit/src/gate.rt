@@ -2,6 +2,8 @@
 ghost use Rattle.std.specs.Prelude.{◌≡◌, ℕ, ◌<◌, [], length, slice_index_or};
 ghost use Rattle.circuit.specs.Lent.{gate_count, gate_in, gate_of};
 
+use crate::rows::rows;
+
 // A gate: the signals at its two inputs, its table, and for each input a least and a greatest delay.
 #[derive(Clone, Copy, PartialEq, Debug)]
 pub struct Gate {
@@ -36,5 +38,5 @@ pub(crate) fn gates(numbers: &[u32]) -> &[[u32; 7]]
     ensures count { length result.now ≡ gate_count numbers.now }
     ensures each { (k : ℕ) → k < gate_count numbers.now → gate_of (slice_index_or result.now k []) ≡ gate_in numbers.now k }
 {
-    numbers.as_chunks().0
+    rows(numbers)
 }

@@ -9,6 +9,7 @@ mod numbers;
 mod parts;
 mod refusal;
 mod register;
+mod rows;
 pub mod table;
 
 pub use checks::{LARGEST, MOST_GATES, MOST_REGISTERS, look};

@@ -2,6 +2,8 @@
 ghost use Rattle.std.specs.Prelude.{◌≡◌, ℕ, ◌<◌, [], length, slice_index_or};
 ghost use Rattle.circuit.specs.Lent.{register_count, register_in, register_of};
 
+use crate::rows::rows;
+
 // A register: the signal that it takes, and the earliest and the latest that its clock comes in a cycle.
 #[derive(Clone, Copy, PartialEq, Debug)]
 pub struct Register {
@@ -28,5 +30,5 @@ pub(crate) fn registers(numbers: &[u32]) -> &[[u32; 3]]
     ensures count { length result.now ≡ register_count numbers.now }
     ensures each { (r : ℕ) → r < register_count numbers.now → register_of (slice_index_or result.now r []) ≡ register_in numbers.now r }
 {
-    numbers.as_chunks().0
+    rows(numbers)
 }

@@ -1,5 +1,5 @@
-use Rattle.circuit.proofs.Chunks.{gate_at}
+use Rattle.circuit.proofs.Chunks.{gate_like}
 use Rattle.circuit.proofs.gate.gates.Goals as goal
 
 pub returns-clause-each : goal.returns-clause-each
-returns-clause-each c k h = rw c.as_chunks.ensures.front (gate_at _ k h)
+returns-clause-each c k h = gate_like _ _ k (λ j l. c.rows.ensures.each k j h l)

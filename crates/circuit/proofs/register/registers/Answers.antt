@@ -1,5 +1,5 @@
-use Rattle.circuit.proofs.Chunks.{register_at}
+use Rattle.circuit.proofs.Chunks.{register_like}
 use Rattle.circuit.proofs.register.registers.Goals as goal
 
 pub returns-clause-each : goal.returns-clause-each
-returns-clause-each c k h = rw c.as_chunks.ensures.front (register_at _ k h)
+returns-clause-each c k h = register_like _ _ k (λ j l. c.rows.ensures.each k j h l)
