@@ -122,6 +122,9 @@ fn out_of_order(rt: HostRuntime) -> Result<(), Fail> {
     assert_eq!(rt; script.push(Kind::Take, entry(2, 1, 0)), Ok(true));
     assert_eq!(rt; script.push(Kind::Take, entry(1, 1, 0)), Ok(false));
     assert_eq!(rt; script.push(Kind::Show, entry(1, 1, 0)), Ok(true));
-    assert_eq!(rt; script.takes.len() + script.shows.len(), 2);
+    assert_eq!(rt;
+        script.takes.as_slice().len() + script.shows.as_slice().len(),
+        2
+    );
     Ok(())
 }
