@@ -119,7 +119,7 @@ fn look_at_gates(numbers: Numbers<'_>) -> Result<(), Refusal>
     requires { lent numbers MetUpTo 3 }
     ensures { MatchResult result (λ _. lent numbers.entry MetUpTo 5) (λ e. lent numbers.entry FirstRefusal e) }
 {
-    let n = registers(numbers.registers).len();
+    let n = numbers.registers().len();
     if let Some(k) = first_misplaced(numbers.gates, n) {
         return Err(Refusal::BadGate(k));
     }
@@ -134,7 +134,7 @@ fn look_at_registers(numbers: Numbers<'_>) -> Result<(), Refusal>
     requires { lent numbers MetUpTo 5 }
     ensures { MatchResult result (λ _. lent numbers.entry MetUpTo 7) (λ e. lent numbers.entry FirstRefusal e) }
 {
-    let signals = registers(numbers.registers).len() + gates(numbers.gates).len();
+    let signals = numbers.registers().len() + numbers.gates().len();
     if let Some(r) = first_untied(numbers.registers, signals) {
         return Err(Refusal::BadRegister(r));
     }

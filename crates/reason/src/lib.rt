@@ -54,19 +54,18 @@ fn large(numbers: Numbers<'_>, p: usize) -> Detail
 }
 
 // A gate's input or table that is wrong.
-#[tactic(auto, using(circuit::proofs::Chunks::gate_at))]
 fn gate(numbers: Numbers<'_>, k: usize) -> GateDetail
     requires within { k < gate_count numbers.gates.now }
     requires wrong { Placed (register_count numbers.registers.now) numbers.gates.now k → ⊥ }
     ensures { TrueOfGate numbers.entry.gates.now numbers.entry.registers.now (BadGate k) k result }
 {
-    let below = numbers.registers.len() / 3 + k;
+    let below = numbers.registers().len() + k;
     let Gate {
         one,
         two,
         table,
         ..
-    } = Gate::from(numbers.gates.as_chunks().0[k]);
+    } = Gate::from(numbers.gates()[k]);
     if one as usize >= below {
         return GateDetail::NotBefore {
             input: Input::First,
@@ -83,13 +82,12 @@ fn gate(numbers: Numbers<'_>, k: usize) -> GateDetail
 }
 
 // A gate's delays that are out of order.
-#[tactic(auto, using(circuit::proofs::Chunks::gate_at))]
 fn delay(numbers: Numbers<'_>, k: usize) -> GateDetail
     requires within { k < gate_count numbers.gates.now }
     requires wrong { Ranged numbers.gates.now k → ⊥ }
     ensures { TrueOfGate numbers.entry.gates.now numbers.entry.registers.now (BadDelay k) k result }
 {
-    let gate = Gate::from(numbers.gates.as_chunks().0[k]);
+    let gate = Gate::from(numbers.gates()[k]);
     if gate.least_one > gate.greatest_one {
         return GateDetail::Delay {
             input: Input::First,
@@ -105,18 +103,17 @@ fn delay(numbers: Numbers<'_>, k: usize) -> GateDetail
 }
 
 // A register's signal that is past the circuit, or its times that are out of order.
-#[tactic(auto, using(circuit::proofs::Chunks::register_at))]
 fn register(numbers: Numbers<'_>, r: usize) -> RegisterDetail
     requires within { r < register_count numbers.registers.now }
     requires wrong { Tied (signal_count numbers.gates.now numbers.registers.now) numbers.registers.now r → ⊥ }
     ensures { TrueOfRegister numbers.entry.gates.now numbers.entry.registers.now (BadRegister r) r result }
 {
-    let signals = numbers.registers.len() / 3 + numbers.gates.len() / 7;
+    let signals = numbers.registers().len() + numbers.gates().len();
     let Register {
         signal,
         early,
         late,
-    } = Register::from(numbers.registers.as_chunks().0[r]);
+    } = Register::from(numbers.registers()[r]);
     if signal as usize >= signals {
         return RegisterDetail::Signal(signal);
     }
@@ -149,13 +146,12 @@ pub fn explain(gates: &[u32], registers: &[u32], times: &[u32]) -> Option<Reason
         registers,
         times,
     };
-    // Counts are by division, since these numbers need not be whole gates and registers.
     let detail = match refusal {
         Refusal::GateNumbers => Detail::GateNumbers(gates.len()),
         Refusal::RegisterNumbers => Detail::RegisterNumbers(registers.len()),
         Refusal::TimeNumbers => Detail::TimeNumbers(times.len()),
-        Refusal::RegisterCount => Detail::Registers(registers.len() / 3),
-        Refusal::GateCount => Detail::Gates(gates.len() / 7),
+        Refusal::RegisterCount => Detail::Registers(numbers.registers().len()),
+        Refusal::GateCount => Detail::Gates(numbers.gates().len()),
         Refusal::TooLarge(p) => large(numbers, p),
         Refusal::BadGate(k) => Detail::Gate(k, gate(numbers, k)),
         Refusal::BadDelay(k) => Detail::Gate(k, delay(numbers, k)),
