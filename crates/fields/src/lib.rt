@@ -83,7 +83,8 @@ pub fn read<const N: usize>(
         let Some(word) = words.next() else {
             return Ok(None);
         };
-        *number = if table_at == Some(i) {
+        let named = table_at == Some(i);
+        *number = if named {
             table(word)?
         } else {
             lines::value(word)?
