@@ -1,22 +1,36 @@
 -- A register at one moment: it stays in its cycle, or goes on to the next and decides what it takes.
-use Rattle.std.proofs.Common.{◌≡◌, ℕ, suc, ◌+◌, ◌-◌, ◌*◌, ◌^◌, ◌<◌, ◌≤◌, min, Bool, true, false, cond, not, ◌&&◌, ltb, leb, List, get_or, sym, ◌∙◌, arith}
-use mathlib.Core.Bool.{beq}
+use Rattle.std.proofs.Common.{◌≡◌, ℕ, suc, ◌+◌, ◌-◌, ◌^◌, ◌<◌, ◌≤◌, min, Bool, true, false, cond, ◌&&◌, ltb, leb, List, length, get_or, sym, ◌∙◌, arith}
+use Rattle.std.specs.Bool.{MatchBool}
+use Rattle.std.specs.List.{AllWithin, HoldsAt, range_with_len}
 use Rattle.std.proofs.lemmas.Nat.{pow_pos}
-use Rattle.std.proofs.lemmas.Bool.{le-leb, lt-leb, true≢false, false≢true}
-use Rattle.circuit.specs.Lent.{register_count, takes, output_early, output_late, setup, hold}
+use Rattle.std.proofs.lemmas.List.FromFn.{get_or-range_with_len, length-range_with_len}
+use Rattle.std.proofs.lemmas.Bool.{le-leb, lt-leb}
+use Rattle.circuit.specs.Lent.{register_count, register_in, output_early, output_late, setup, hold}
+use Rattle.circuit.specs.declared.register.Register.{Register}
+use Rattle.arrival.specs.Window.{Wave}
 use Rattle.promise.specs.Machine.{Machine, machine_in}
 use Rattle.history.specs.declared.history.History.{History}
 use Rattle.history.specs.Kept.{kept}
 use Rattle.simulation.specs.Simulated.{Told, cycle, bits, settled, first_seen, end_seen, shown_of, shows_at, run_waves, run_bits}
-use Rattle.simulation.proofs.Running.{cycle_until, clocks_apart, register_shows, settled_same, some_seen}
+use Rattle.simulation.proofs.Running.{cycle_until, clocks_apart, register_shows, settled_same, settled_kept, settled_not, some_seen}
 use Rattle.step.specs.Lent.{TellsRegister}
-use Rattle.step.specs.Stands.{Wide, Ready, Remembers, InCycle, Does, RegisterGoes}
+use Rattle.step.specs.Stands.{Wide, Ready, Remembers, InCycle, Does, RegisterGoes, cycle_of}
+use Rattle.step.specs.declared.state.State.{State}
+use Rattle.step.specs.declared.registers.Doing.{Doing}
+use Rattle.step.specs.declared.told.Clocks.{Clocks}
 
-pub differ : (a b : Bool) → not (beq a b) ≡ true → a ≡ b → ⊥
-differ true true t e = false≢true t
-differ true false t e = true≢false e
-differ false true t e = false≢true e
-differ false false t e = false≢true t
+-- a wave by whether it is at all moments what it was at first
+pub settled_by : (f : Wave) (a e : ℕ) (told b r : Bool) → b ≡ f a →
+    MatchBool r (AllWithin (λ u. f u ≡ b) (range_with_len a (e - a)) 0 (length (range_with_len a (e - a)))) ((k : ℕ) × (k < length (range_with_len a (e - a))) × HoldsAt (λ u. f u ≡ b → ⊥) (range_with_len a (e - a)) k) →
+    cond r b told ≡ settled f a e told
+settled_by f a e told b true first all = first ∙ sym (settled_kept f a e told (λ u l h.
+    let n : u - a < e - a = omega arith in
+    let at : get_or (range_with_len a (e - a)) (u - a) 0 ≡ u = get_or-range_with_len a (e - a) (u - a) 0 n ∙ omega arith in
+    rw (at, first) at (all (u - a) 0 (omega arith) (omega (arith, length-range_with_len a (e - a))))))
+settled_by f a e told b false first (k, l, other) =
+    let n : k < e - a = omega (arith, length-range_with_len a (e - a)) in
+    let at : get_or (range_with_len a (e - a)) k 0 ≡ a + k = get_or-range_with_len a (e - a) k 0 n in
+    sym (settled_not f a e (a + k) told (omega arith) (omega arith) (rw (at, first) at (other 0)))
 
 module _ (m : Machine) (x : Told) (ready : Ready m x) (t q n : ℕ) (h : q < m.registers) (past kept_bits : History) (now : InCycle m x t q n kept_bits) where
   goes_on : x.clock (suc n) q + m.output_late ≤ t → cycle m x q (suc t) ≡ suc n
@@ -45,45 +59,43 @@ module _ (m : Machine) (x : Told) (ready : Ready m x) (t q n : ℕ) (h : q < m.r
       settled_same _ _ _ _ _ (some_seen m x ready.runnable ready.may n q h)
       (λ u a b. so (m.takes q) u (ready.runnable.formed.taken q h) (omega arith) (λ e. absurd (omega arith)) (omega (arith, wide.look_back)))
 
-module _ {g r ts : List ℕ} {t q n : ℕ} {past kept_bits : History} {shows : List Bool} {clocks : List ℕ} {told_takes : List Bool} (h : q < register_count r) where
+module _ {g r ts : List ℕ} {t q : ℕ} {show : Bool} {told : Clocks} {b : State} {d : Doing} {register : Register} (h : q < register_count r) (is : register ≡ register_in r q) where
   -- it goes on
-  pub decides : {next after from end c : ℕ} {bit shown : Bool} → next ≡ get_or clocks (3 * q + 1) 0 → after ≡ get_or clocks (3 * q + 2) 0 → next + output_late ts ≤ t → t < 2 ^ 64 →
-      from ≡ next - setup ts → end ≡ next + min (hold ts + 1) (output_late ts) → bit ≡ settled (kept past (takes r q)) from end (get_or told_takes q false) →
-      shown ≡ cond (leb (next + output_late ts) t && ltb t (after + output_early ts)) bit (get_or shows q false) → c ≡ min (n + 1) (2 ^ 64 - 1) →
-      RegisterGoes g r ts t q n past kept_bits shows clocks told_takes c bit shown
-  decides {next} {after} {from} {end} {c} {bit} {shown} ne ae l small fe ee be se ce = record { does = does }
+  pub decides : {from end : ℕ} → told.next + output_late ts ≤ t → t < 2 ^ 64 →
+      from ≡ told.next - setup ts → end ≡ told.next + min (hold ts + 1) (output_late ts) → d.bit ≡ settled (kept b.past register.signal) from end told.take →
+      d.shows ≡ cond (leb (told.next + output_late ts) t && ltb t (told.after + output_early ts)) d.bit show → d.cycle ≡ min (cycle_of b q + 1) (2 ^ 64 - 1) →
+      RegisterGoes g r ts t q show told b d
+  decides {from} {end} l small fe ee be se ce = record { does = does }
     where
-      does : (x : Told) → Ready (machine_in g r ts) x → Wide (machine_in g r ts) past → TellsRegister (machine_in g r ts) x t q n shows clocks told_takes →
-          Remembers (machine_in g r ts) x t q past → InCycle (machine_in g r ts) x t q n kept_bits → Does (machine_in g r ts) x t q c bit shown
-      does x ready wide told so now =
-          let nx : next ≡ x.clock (suc n) q = ne ∙ told.next in
-          let ax : after ≡ x.clock (suc (suc n)) q = ae ∙ told.after in
-          let on : x.clock (suc n) q + output_late ts ≤ t = rw nx at l in
-          let cx : c ≡ suc n = omega (arith, few_cycles (machine_in g r ts) x ready t q n h past kept_bits now) in
+      does : (x : Told) → Ready (machine_in g r ts) x → Wide (machine_in g r ts) b.past → TellsRegister (machine_in g r ts) x t q (cycle_of b q) show told →
+          Remembers (machine_in g r ts) x t q b.past → InCycle (machine_in g r ts) x t q (cycle_of b q) b.bits → Does (machine_in g r ts) x t q d.cycle d.bit d.shows
+      does x ready wide tells so now =
+          let n = cycle_of b q in
+          let on : x.clock (suc n) q + output_late ts ≤ t = rw tells.next at l in
+          let cx : d.cycle ≡ suc n = omega (arith, few_cycles (machine_in g r ts) x ready t q n h b.past b.bits now) in
           let one : hold ts + 1 ≡ suc (hold ts) = omega arith in
-          let tx : bit ≡ run_bits (machine_in g r ts) x (suc n) q = be ∙ rw (fe, ee, nx, one, told.take) (taken_now (machine_in g r ts) x ready t q n h past kept_bits now wide so on) in
-          let cy = goes_on (machine_in g r ts) x ready t q n h past kept_bits now on in
+          let tx : d.bit ≡ run_bits (machine_in g r ts) x (suc n) q = be ∙ rw (is, fe, ee, tells.next, one, tells.take) (taken_now (machine_in g r ts) x ready t q n h b.past b.bits now wide so on) in
+          let cy = goes_on (machine_in g r ts) x ready t q n h b.past b.bits now on in
           record {
             comes_to = cx ∙ sym cy;
             holds = rw cx tx;
-            shows_now = shows_now (machine_in g r ts) x ready t q n h past kept_bits now (suc n) bit shown cy tx (se ∙ rw (nx, ax, told.show));
+            shows_now = shows_now (machine_in g r ts) x ready t q n h b.past b.bits now (suc n) d.bit d.shows cy tx (se ∙ rw (tells.next, tells.after, tells.shows));
           }
 
   -- it stays
-  pub keeps : {clock next : ℕ} {bit shown : Bool} → clock ≡ get_or clocks (3 * q) 0 → next ≡ get_or clocks (3 * q + 1) 0 → t < next + output_late ts → bit ≡ kept kept_bits q n →
-      shown ≡ cond (leb (clock + output_late ts) t && ltb t (next + output_early ts)) bit (get_or shows q false) →
-      RegisterGoes g r ts t q n past kept_bits shows clocks told_takes n bit shown
-  keeps {clock} {next} {bit} {shown} ce ne l be se = record { does = does }
+  pub keeps : t < told.next + output_late ts → d.bit ≡ kept b.bits q (cycle_of b q) →
+      d.shows ≡ cond (leb (told.clock + output_late ts) t && ltb t (told.next + output_early ts)) d.bit show → d.cycle ≡ cycle_of b q →
+      RegisterGoes g r ts t q show told b d
+  keeps l be se ce = record { does = does }
     where
-      does : (x : Told) → Ready (machine_in g r ts) x → Wide (machine_in g r ts) past → TellsRegister (machine_in g r ts) x t q n shows clocks told_takes →
-          Remembers (machine_in g r ts) x t q past → InCycle (machine_in g r ts) x t q n kept_bits → Does (machine_in g r ts) x t q n bit shown
-      does x ready wide told so now =
-          let nx : next ≡ x.clock (suc n) q = ne ∙ told.next in
-          let cx : clock ≡ x.clock n q = ce ∙ told.clock in
-          let tx : bit ≡ run_bits (machine_in g r ts) x n q = be ∙ now.held n (omega arith) (omega (arith, pow_pos kept_bits.log)) in
-          let cy = stays (machine_in g r ts) x ready t q n h past kept_bits now (rw nx at l) in
+      does : (x : Told) → Ready (machine_in g r ts) x → Wide (machine_in g r ts) b.past → TellsRegister (machine_in g r ts) x t q (cycle_of b q) show told →
+          Remembers (machine_in g r ts) x t q b.past → InCycle (machine_in g r ts) x t q (cycle_of b q) b.bits → Does (machine_in g r ts) x t q d.cycle d.bit d.shows
+      does x ready wide tells so now =
+          let n = cycle_of b q in
+          let tx : d.bit ≡ run_bits (machine_in g r ts) x n q = be ∙ now.held n (omega arith) (omega (arith, pow_pos b.bits.log)) in
+          let cy = stays (machine_in g r ts) x ready t q n h b.past b.bits now (rw tells.next at l) in
           record {
-            comes_to = sym cy;
-            holds = tx;
-            shows_now = shows_now (machine_in g r ts) x ready t q n h past kept_bits now n bit shown cy tx (se ∙ rw (nx, cx, told.show));
+            comes_to = ce ∙ sym cy;
+            holds = rw ce tx;
+            shows_now = shows_now (machine_in g r ts) x ready t q n h b.past b.bits now n d.bit d.shows cy tx (se ∙ rw (tells.next, tells.clock, tells.shows));
           }

@@ -1,7 +1,8 @@
 -- The history of a run: one more signal settled, and the gates one after another.
-use Rattle.std.proofs.Common.{◌≡◌, ℕ, suc, ◌+◌, ◌-◌, ◌*◌, ◌<◌, Bool, List, length, get_or, sym, refl, ◌∙◌, ap₂, inl, inr, arith}
+use Rattle.std.proofs.Common.{◌≡◌, ℕ, suc, ◌+◌, ◌-◌, ◌<◌, Bool, List, length, sym, refl, ◌∙◌, ap₂, inl, inr, arith}
 use Rattle.std.proofs.lemmas.Bool.{cases_eq}
 use Rattle.circuit.specs.Gate.{output}
+use Rattle.circuit.specs.declared.gate.Gate.{Gate}
 use Rattle.circuit.specs.Circuit.{signals}
 use Rattle.circuit.specs.Lent.{gate_count, register_count, gate_in, drawn}
 use Rattle.circuit.proofs.LentLaws.{gates_in_length, gates_in_at, inputs_before}
@@ -10,8 +11,9 @@ use Rattle.history.specs.declared.history.History.{History}
 use Rattle.history.specs.Kept.{kept, span, Put}
 use Rattle.simulation.specs.Simulated.{Told, run_waves}
 use Rattle.simulation.proofs.Running.{gate_moves}
-use Rattle.step.specs.Lent.{TellsGates}
+use Rattle.step.specs.Lent.{TellsGates, delays_at}
 use Rattle.step.specs.Stands.{Wide, Ready, Remembers, SameSize, Settles}
+use Rattle.step.specs.declared.told.Delays.{Delays}
 
 -- a bit was put: histories keep their size
 pub same_none : (h : History) → SameSize h h
@@ -48,14 +50,14 @@ module _ (m : Machine) (x : Told) (t : ℕ) where
     | inr ne ↦ so k u l (omega (arith, ne)) (λ _. l) (omega arith)
   ]
 
-module _ {g r ts delays : List ℕ} {t : ℕ} where
+module _ {g r ts : List ℕ} {delays : List Delays} {t : ℕ} where
   pub none_yet : (past : History) → Settles g r ts t delays (register_count r + 0) past past
   none_yet past = record { size = same_none past; settled = λ x ready wide told so. let e : register_count r + 0 ≡ register_count r = omega arith in rw e so }
 
-  pub one_more : (k : ℕ) {start before after : History} {b : Bool} → k < gate_count g →
-      b ≡ output (gate_in g k).table (kept before (gate_in g k).one (t - get_or delays (2 * k) 0)) (kept before (gate_in g k).two (t - get_or delays (2 * k + 1) 0)) →
+  pub one_more : (k : ℕ) {start before after : History} {gate : Gate} {b : Bool} → k < gate_count g → gate ≡ gate_in g k →
+      b ≡ output gate.table (kept before gate.one (t - (delays_at delays k).one)) (kept before gate.two (t - (delays_at delays k).two)) →
       Put before after (register_count r + k) t b → Settles g r ts t delays (register_count r + k) start before → Settles g r ts t delays (register_count r + (k + 1)) start after
-  one_more k {start} {before} {after} {b} h is put so_far = record { size = same_put so_far.size put; settled = settled }
+  one_more k {start} {before} {after} {gate} {b} h here is put so_far = record { size = same_put so_far.size put; settled = settled }
     where
       settled : (x : Told) → Ready (machine_in g r ts) x → Wide (machine_in g r ts) start → TellsGates (machine_in g r ts) x t delays → Remembers (machine_in g r ts) x t (register_count r) start → Remembers (machine_in g r ts) x t (register_count r + (k + 1)) after
       settled x ready wide told so =
@@ -71,4 +73,4 @@ module _ {g r ts delays : List ℕ} {t : ℕ} where
           let second = now (gate_in g k).two (t - x.two k t) (omega (arith, gates_in_length g)) (omega arith) (λ _. in_front.1) (omega arith) in
           let moves = rw (gates_in_at g k h) at (gate_moves (machine_in g r ts) x ready.runnable ready.may k t l) in
           rw e (remembers_more (machine_in g r ts) x t (register_count r + k) before after b w.rows (omega (arith, gates_in_length g)) put
-          (is ∙ rw (told.one k l, told.two k l) (ap₂ (output (gate_in g k).table) first second ∙ sym moves)) now)
+          (is ∙ rw (here, told.one k l, told.two k l) (ap₂ (output (gate_in g k).table) first second ∙ sym moves)) now)

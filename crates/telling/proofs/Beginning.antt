@@ -1,15 +1,17 @@
 -- Parts of a teller before anything is said.
-use Rattle.std.proofs.Common.{◌≡◌, ℕ, ◌*◌, ◌≤◌, List, length, get_or, replicate, None, vec_items, Option, inl, inr, arith}
+use Rattle.std.proofs.Common.{◌≡◌, ℕ, List, length, get_or, replicate, None, vec_items, Option, ap, inl, inr, arith}
 use Rattle.std.proofs.lemmas.List.{get_or-replicate, get_or_past, length-replicate}
 use Rattle.std.proofs.lemmas.Bool.{cases_lt}
 use Rattle.circuit.specs.Lent.{gate_count, register_count}
+use Rattle.step.specs.declared.told.Clocks.{Clocks}
 use Rattle.script.specs.declared.entry.Entry.{Entry}
 use Rattle.script.specs.declared.script.Script.{Script}
 use Rattle.script.specs.Entries.{last_of}
-use Rattle.telling.specs.declared.teller.Delays.{Delays}
-use Rattle.telling.specs.declared.teller.Shows.{Shows}
-use Rattle.telling.specs.Said.{DoneBefore, Said}
-use Rattle.telling.specs.Parts.{DelaysNew, ShowsNew}
+use Rattle.telling.specs.declared.part.Part.{Part}
+use Rattle.telling.specs.Said.{DoneBefore, Said, FirstTold}
+use Rattle.telling.specs.Parts.{PartNew}
+use Rattle.telling.specs.Knows.{Begins}
+use Rattle.telling.specs.declared.teller.Teller.{Teller}
 
 -- every place of a list of one value has it, and so has what is past its end
 pub all_same : {A : Type 0} (n k : ℕ) (a : A) → get_or (replicate n a) k a ≡ a
@@ -22,14 +24,23 @@ none_said : (es : List Entry) (n m : ℕ) → Said es 0 m (replicate n None)
 unfolding last_of
 none_said es n m k l = all_same n k None
 
-pub delays_new : (s : Script) (g : List ℕ) (y : Delays) (n : ℕ) → y.done ≡ 0 → 2 * gate_count g ≤ length (vec_items y.now) → gate_count g ≤ n → vec_items y.said ≡ replicate n None → DelaysNew s g y
-delays_new s g y n z now each said = record {
-  sized = record { now_each = now; said_each = rw said (omega (arith, length-replicate {A = Option Entry} n None)) };
-  knows = record { done_all = rw z (none_done _); said_all = rw (z, said) (none_said _ n _) };
+pub part_new : {V : Type 0} {y : Part V} (n : ℕ) → length (vec_items y.values) ≡ n → vec_items y.said ≡ replicate n None → y.done ≡ 0 → PartNew n y
+part_new n values said z = record {
+  places_all = rw said (omega (arith, length-replicate {A = Option Entry} n None));
+  knows = λ es. record { done_all = rw z (none_done es); said_all = rw (z, said) (none_said es n _) };
 }
 
-pub shows_new : (s : Script) (r : List ℕ) (y : Shows) (n : ℕ) → y.done ≡ 0 → register_count r ≤ length (vec_items y.now) → length (vec_items y.now) ≤ n → vec_items y.said ≡ replicate n None → ShowsNew s r y
-shows_new s r y n z now each said = record {
-  sized = record { now_each = now; said_each = rw said (omega (arith, length-replicate {A = Option Entry} n None)) };
-  knows = record { done_all = rw z (none_done _); said_all = rw (z, said) (none_said _ n _) };
+-- a new teller
+pub begins : (s : Script) (g r ts : List ℕ) (y : Teller) → PartNew (gate_count g) y.delays → PartNew (register_count r) y.shows → FirstTold s g r ts (register_count r) (vec_items y.clocks) → Begins s g r ts y
+begins s g r ts y delays shows clocks = record {
+  knows = record {
+    sized = record { delays_sized = omega (arith, delays.places_all); shows_sized = omega (arith, shows.places_all); clocks_sized = omega (arith, clocks.size) };
+    delays_known = delays.knows s.delays;
+    shows_known = shows.knows s.shows;
+    clocks_known = λ q h. rw ((clocks.told q h).cycle) (clocks.told q h);
+  };
+  stand = λ q. elim (cases_lt q (register_count r)) [
+    | inl h ↦ (clocks.told q h).cycle
+    | inr l ↦ ap (λ (c : Clocks). c.cycle) (get_or_past (vec_items y.clocks) q _ (omega (arith, clocks.size)))
+  ];
 }

@@ -1,5 +1,5 @@
-pub mod Keeping
-pub mod Following
-pub mod Parting
 pub mod Beginning
+pub mod Following
+pub mod Gates
+pub mod Keeping
 pub mod Whole

@@ -1,23 +1,21 @@
 -- What the parts of a teller tell is what the script tells.
-use Rattle.std.proofs.Common.{◌≡◌, ℕ, suc, ◌<◌, ◌≤◌, List, length, get_or, None, vec_items, Option, sym, ap, ◌∙◌, arith}
+use Rattle.std.proofs.Common.{◌≡◌, ℕ, suc, ◌<◌, ◌≤◌, Bool, false, List, length, get_or, None, vec_items, Option, sym, ap, ◌∙◌, arith}
 use Rattle.std.proofs.lemmas.Bool.{le-leb, lt-leb, and_left}
 use Rattle.circuit.specs.Lent.{gate_count, register_count}
 use Rattle.circuit.proofs.LentLaws.{gates_in_length}
 use Rattle.promise.specs.Machine.{machine_in}
-use Rattle.step.specs.Lent.{TellsGates, TellsRegister}
+use Rattle.step.specs.Lent.{TellsGates, TellsRegister, clocks_at, delays_at}
 use Rattle.script.specs.declared.entry.Entry.{Entry}
 use Rattle.script.specs.declared.script.Script.{Script}
-use Rattle.script.specs.Entries.{entry, last_of, about, due}
-use Rattle.script.specs.Entries.{said_by}
+use Rattle.script.specs.Entries.{entry, last_of, about, due, said_by}
 use Rattle.script.specs.Told.{told_by}
 use Rattle.script.proofs.Last.{last_rest, last_same}
-use Rattle.telling.specs.declared.teller.Delays.{Delays}
-use Rattle.telling.specs.declared.teller.Shows.{Shows}
-use Rattle.telling.specs.declared.teller.Clocks.{Clocks}
+use Rattle.step.specs.declared.told.Delays.{Delays}
+use Rattle.telling.specs.declared.part.Part.{Part}
 use Rattle.telling.specs.declared.teller.Teller.{Teller}
-use Rattle.telling.specs.Said.{DoneBefore, Said, one_of, two_of, show_of}
-use Rattle.telling.specs.Parts.{DelaysSized, ShowsSized, DelaysKnow, ShowsKnow, ClocksKnow, DelaysOn, ShowsOn, ClocksOn, ComesTo}
-use Rattle.telling.specs.Knows.{ToldOn}
+use Rattle.telling.specs.Said.{DoneBefore, Said, one_of, two_of, show_of, ClocksTold, Followed}
+use Rattle.telling.specs.Parts.{PartKnows, PartOn, ComesTo, places}
+use Rattle.telling.specs.Knows.{Knows, ToldOn}
 
 -- of the statements up to moment t the last about a gate or register is the last that is due
 due_last : (es : List Entry) (t i k : ℕ) → DoneBefore es (suc t) i → last_of (about k) es i ≡ said_by es t k
@@ -28,45 +26,61 @@ due_last es t i k done =
 kept_last : (es : List Entry) (t i n k : ℕ) (said : List (Option Entry)) → DoneBefore es (suc t) i → Said es i n said → k < n → get_or said k None ≡ said_by es t k
 kept_last es t i n k said done kept h = kept k h ∙ due_last es t i k done
 
-module _ (s : Script) (g r ts : List ℕ) (t : ℕ) where
-  gates_told : (y y' : Delays) → DelaysOn s g t y y' → DelaysSized g y → DelaysKnow s t y → TellsGates (machine_in g r ts) (told_by s g r ts) t (vec_items y'.now)
-  unfolding told_by
-  gates_told y y' on sized knows =
-      let k' = on.knows knows in
-      let z' = on.sized_still sized in
-      let at : (k : ℕ) → k < gate_count g → get_or (vec_items y'.said) k None ≡ said_by s.delays t k =
-      λ k h. kept_last s.delays t y'.done _ k (vec_items y'.said) k'.done_all k'.said_all (omega (arith, z'.said_each)) in
-      record {
-        one = λ k h. let l : k < gate_count g = omega (arith, gates_in_length g) in on.told.one k l ∙ ap (one_of s.seed g k t) (at k l);
-        two = λ k h. let l : k < gate_count g = omega (arith, gates_in_length g) in on.told.two k l ∙ ap (two_of s.seed g k t) (at k l);
-      }
+-- what is kept of a gate or register that has a place is the last statement that is due
+kept_due : {V : Type 0} (es : List Entry) (t k : ℕ) (y : Part V) → PartKnows es (suc t) y → k < places y → get_or (vec_items y.said) k None ≡ said_by es t k
+kept_due es t k y knows h = kept_last es t y.done _ k (vec_items y.said) knows.done_all knows.said_all (omega arith)
 
-  registers_told : (cycles : List ℕ) (x x' : Shows) (y y' : Clocks) → ShowsOn s r t x x' → ShowsSized r x → ShowsKnow s t x → ClocksOn s g r ts cycles y y' → ClocksKnow s g r ts y → ComesTo s g r ts cycles y →
-      (q : ℕ) → q < register_count r → TellsRegister (machine_in g r ts) (told_by s g r ts) t q (get_or cycles q 0) (vec_items x'.now) (vec_items y'.now) (vec_items y'.takes)
-  unfolding told_by
-  registers_told cycles x x' y y' shown sized knows clocked known near q h =
-      let k' = shown.knows knows in
-      let z' = shown.sized_still sized in
-      let c = rw (clocked.stand q h) at (clocked.knows known near q h) in
-      record {
-        show = shown.told q (omega (arith, sized.now_each))
-            ∙ ap (show_of s.seed q t) (kept_last s.shows t x'.done _ q (vec_items x'.said) k'.done_all k'.said_all (omega (arith, z'.said_each, z'.now_each)));
-        clock = c.clock;
-        next = c.next;
-        after = c.after;
-        take = c.take;
-      }
+module _ (s : Script) (g r ts : List ℕ) (t : ℕ) where
+  -- the delays of all gates are told by what is kept, and what all registers show
+  pub record DelaysTold (y : Part Delays) : Type 0 where
+    pub one : (k : ℕ) → k < gate_count g → (delays_at (vec_items y.values) k).one ≡ one_of s.seed g k t (get_or (vec_items y.said) k None)
+    pub two : (k : ℕ) → k < gate_count g → (delays_at (vec_items y.values) k).two ≡ two_of s.seed g k t (get_or (vec_items y.said) k None)
+
+  abbrev pub ShowsTold : Part Bool → Type 0
+  ShowsTold y = (q : ℕ) → q < register_count r → get_or (vec_items y.values) q false ≡ show_of s.seed q t (get_or (vec_items y.said) q None)
 
   -- the parts together
-  pub told_whole : (cycles : List ℕ) (y y' : Teller) → DelaysOn s g t y.delays y'.delays → ShowsOn s r t y.shows y'.shows → ClocksOn s g r ts cycles y.clocks y'.clocks → ToldOn s g r ts t cycles y y'
-  told_whole cycles y y' d x c = record {
-    stand = c.stand;
-    knows = λ k near. record {
-      sized = record { delays_sized = d.sized_still k.sized.delays_sized; shows_sized = x.sized_still k.sized.shows_sized; clocks_sized = c.sized_still k.sized.clocks_sized };
-      delays_known = d.knows k.delays_known;
-      shows_known = x.knows k.shows_known;
-      clocks_known = c.knows k.clocks_known near;
-    };
-    gates = λ k. gates_told y.delays y'.delays d k.sized.delays_sized k.delays_known;
-    registers = λ k near. registers_told cycles y.shows y'.shows y.clocks y'.clocks x k.sized.shows_sized k.shows_known c k.clocks_known near;
-  }
+  module _ (cycles : List ℕ) (y y' : Teller) (d : PartOn s.delays t y.delays y'.delays) (dt : DelaysTold y'.delays) (x : PartOn s.shows t y.shows y'.shows) (xt : ShowsTold y'.shows)
+      (c : Followed s g r ts cycles (register_count r) (vec_items y.clocks) (vec_items y'.clocks)) where
+    gates_told : Knows s g r ts t y → TellsGates (machine_in g r ts) (told_by s g r ts) t (vec_items y'.delays.values)
+    unfolding told_by
+    gates_told k =
+        let at : (i : ℕ) → i < gate_count g → get_or (vec_items y'.delays.said) i None ≡ said_by s.delays t i =
+        λ i h. kept_due s.delays t i y'.delays (d.knows k.delays_known) (omega (arith, d.places_same, k.sized.delays_sized)) in
+        record {
+          one = λ i h. let l : i < gate_count g = omega (arith, gates_in_length g) in dt.one i l ∙ ap (one_of s.seed g i t) (at i l);
+          two = λ i h. let l : i < gate_count g = omega (arith, gates_in_length g) in dt.two i l ∙ ap (two_of s.seed g i t) (at i l);
+        }
+
+    clocks_now : Knows s g r ts t y → ComesTo s g r ts cycles (vec_items y.clocks) → (q : ℕ) → q < register_count r → ClocksTold s g r ts q (get_or cycles q 0) (clocks_at (vec_items y'.clocks) q)
+    clocks_now k near q h = c.told_now q h (near.near q h) (near.small q h) (k.clocks_known q h)
+
+    registers_told : Knows s g r ts t y → ComesTo s g r ts cycles (vec_items y.clocks) → (q : ℕ) → q < register_count r →
+        TellsRegister (machine_in g r ts) (told_by s g r ts) t q (get_or cycles q 0) (get_or (vec_items y'.shows.values) q false) (clocks_at (vec_items y'.clocks) q)
+    unfolding told_by
+    registers_told k near q h =
+        let told = clocks_now k near q h in
+        record {
+          shows = xt q h ∙ ap (show_of s.seed q t) (kept_due s.shows t q y'.shows (x.knows k.shows_known) (omega (arith, x.places_same, k.sized.shows_sized)));
+          clock = told.clock;
+          next = told.next;
+          after = told.after;
+          take = told.take;
+        }
+
+    pub told_whole : ToldOn s g r ts t cycles y y'
+    told_whole = record {
+      stand = c.stand;
+      knows = λ k near. record {
+        sized = record {
+          delays_sized = omega (arith, d.places_same, k.sized.delays_sized);
+          shows_sized = omega (arith, x.places_same, k.sized.shows_sized);
+          clocks_sized = omega (arith, c.size, k.sized.clocks_sized);
+        };
+        delays_known = d.knows k.delays_known;
+        shows_known = x.knows k.shows_known;
+        clocks_known = λ q h. rw (c.stand q h) (clocks_now k near q h);
+      };
+      gates = gates_told;
+      registers = registers_told;
+    }

@@ -1,11 +1,10 @@
 // What is told moment by moment.
 #![tactic(auto)]
 
-mod making;
-mod moments;
-mod parts;
+mod clocks_told;
+mod part;
+mod said;
 mod teller;
-mod telling;
-mod told_clocks;
 
-pub use teller::{Clocks, Delays, Shows, Teller};
+pub use part::Part;
+pub use teller::Teller;

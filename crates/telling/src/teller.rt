@@ -1,35 +1,68 @@
 // Who tells what, moment by moment.
-use script::Entry;
+ghost use Rattle.std.specs.Prelude.{◌≡◌, IfOk, MatchResult};
+ghost use Rattle.circuit.specs.Checked.{of};
+ghost use Rattle.telling.specs.Knows.{Begins, Suits, Lacks, TellAnswer};
 
-// Each gate's two delays now, the last statement about each gate so far, and how many statements that takes in.
-#[derive(Drop)]
-pub struct Delays {
-    pub now: Vec<u32>,
-    pub(crate) said: Vec<Option<Entry>>,
-    pub(crate) done: usize,
-}
+use crate::clocks_told::{begin, follow};
+use crate::part::Part;
+use crate::said::{delays_of, show_of};
+use circuit::{Circuit, Refusal};
+use clocks::Bench;
+use std::alloc::{AllocError, Global};
+use step::{Clocks, Delays};
 
-// What each register shows now where it may show anything, the last statement about that so far, and how many statements
-// that takes in.
-#[derive(Drop)]
-pub struct Shows {
-    pub now: Vec<bool>,
-    pub(crate) said: Vec<Option<Entry>>,
-    pub(crate) done: usize,
-}
-
-// For each register the cycle for which it is told, three clocks from that cycle on, and what it takes in the next.
-#[derive(Drop)]
-pub struct Clocks {
-    pub now: Vec<u64>,
-    pub takes: Vec<bool>,
-    pub(crate) stood: Vec<u64>,
-}
-
-// All that is told now.
+// All that is told now: each gate's delays, what each register shows where it may show anything, and its clocks and what
+// it takes in the cycle in which it stands.
 #[derive(Drop)]
 pub struct Teller {
-    pub delays: Delays,
-    pub shows: Shows,
-    pub clocks: Clocks,
+    pub delays: Part<Delays>,
+    pub shows: Part<bool>,
+    pub clocks: Vec<Clocks>,
+}
+
+impl Teller {
+    // A teller that knows what is said before moment 0, which is nothing.
+    pub fn new(heap: Global, bench: Bench<'_>) -> Result<Teller, AllocError>
+        ensures { IfOk result (λ y. of bench.entry.circuit (Begins bench.entry.script.now) y) }
+    {
+        let none = Delays { one: 0, two: 0 };
+        Ok(Teller {
+            delays: Part::new(heap, bench.circuit.gate_count(), none)?,
+            shows: Part::new(heap, bench.circuit.register_count(), false)?,
+            clocks: begin(heap, bench)?,
+        })
+    }
+
+    // That there are places for all gates and registers, and a cycle for each register.
+    fn suits(&self, circuit: Circuit<'_>, cycles: &[u64]) -> Result<(), Refusal>
+        ensures { MatchResult result (λ _. Suits circuit.entry cycles.now self.now) (λ e. Lacks circuit.entry cycles.now self.now e) }
+    {
+        let n = circuit.register_count();
+        if cycles.len() < n || self.shows.places() < n || self.clocks.len() < n {
+            return Err(Refusal::NoRoom(n));
+        }
+        let gates = circuit.gate_count();
+        if self.delays.places() < gates {
+            return Err(Refusal::NoRoom(gates));
+        }
+        Ok(())
+    }
+
+    // What is told for moment `t` to registers that stand in these cycles. A teller with too few places for the circuit, or
+    // too few cycles, are refused, with nothing done.
+    pub fn tell(&mut self, bench: Bench<'_>, t: u64, cycles: &[u64]) -> Result<(), Refusal>
+        ensures { TellAnswer bench.entry t cycles.now self.old self.new result }
+    {
+        self.suits(bench.circuit, cycles)?;
+        let gates = bench.circuit.gate_count();
+        let registers = bench.circuit.register_count();
+        let delays = bench.script.delays.as_slice();
+        self.delays
+            .tell(gates, delays, t, |k, said| delays_of(bench, k, t, said));
+        let shows = bench.script.shows.as_slice();
+        self.shows
+            .tell(registers, shows, t, |r, said| show_of(bench, r, t, said));
+        follow(bench, cycles, &mut self.clocks);
+        Ok(())
+    }
 }

@@ -1,16 +1,21 @@
 -- One moment of a room that stands.
-use Rattle.std.proofs.Common.{◌≡◌, ℕ, suc, ◌+◌, ◌*◌, ◌^◌, ◌<◌, ◌≤◌, Bool, true, List, length, get_or, is_ok, Ok, Err, vec_items, Result, ◌∙◌, inl, inr, arith, MatchResult}
+use Rattle.std.proofs.Common.{◌≡◌, ℕ, suc, ◌+◌, ◌*◌, ◌^◌, ◌<◌, ◌≤◌, Bool, false, List, length, get_or, Ok, Err, vec_items, Result, refl, ap, ◌∙◌, inl, inr, arith, MatchResult}
 use Rattle.std.proofs.lemmas.Nat.{mul-le}
 use Rattle.std.proofs.lemmas.Bool.{cases_lt}
+use Rattle.circuit.specs.Checked.{of, registers_of}
 use Rattle.circuit.specs.Lent.{register_count, period}
 use Rattle.circuit.specs.Whole.{Small}
+use Rattle.circuit.specs.declared.circuit.Circuit.{Circuit}
 use Rattle.circuit.specs.declared.refusal.Refusal.{Refusal}
 use Rattle.circuit.proofs.Joined.{small_registers, small_times}
 use Rattle.promise.specs.Machine.{Machine, machine_in}
 use Rattle.simulation.specs.Simulated.{Told, cycle}
 use Rattle.simulation.proofs.Running.{cycle_from}
-use Rattle.step.specs.Lent.{TooFew}
-use Rattle.step.specs.Stands.{Ready, Steps, Given}
+use Rattle.step.specs.Lent.{TooFew, TellsRegister, clocks_at}
+use Rattle.step.specs.Stands.{Ready, Steps, Given, cycle_of}
+use Rattle.step.specs.declared.told.Clocks.{Clocks}
+use Rattle.step.specs.declared.told.Delays.{Delays}
+use Rattle.step.specs.declared.told.Now.{Now}
 use Rattle.step.proofs.Remembering.{wide_same}
 use Rattle.step.proofs.Going.{at_most_next}
 use Rattle.clocks.specs.Benches.{SmallClock}
@@ -18,9 +23,9 @@ use Rattle.script.specs.declared.script.Script.{Script}
 use Rattle.script.specs.Told.{told_by, clock_told}
 use Rattle.script.proofs.Telling.{may_be_told}
 use Rattle.telling.specs.Parts.{ComesTo}
-use Rattle.telling.specs.Knows.{ToldOn}
+use Rattle.telling.specs.Knows.{Suits, ToldOn}
 use Rattle.trial.specs.declared.room.Room.{Room}
-use Rattle.trial.specs.Standing.{ReadyToGo, Standing}
+use Rattle.trial.specs.Standing.{ReadyToGo, Standing, Goes}
 
 module _ (s : Script) (g r ts : List ℕ) where
   abbrev m : Machine
@@ -54,67 +59,85 @@ module _ (s : Script) (g r ts : List ℕ) where
       let less : n * period ts ≤ cycle m x q t * period ts = mul-le n (period ts) (cycle m x q t) (period ts) l (omega arith) in
       record { cycle = omega arith; begins = omega arith; clock = omega arith }
 
-  module _ (t : ℕ) (y y' : Room) (small : (p : ℕ) → Small g r ts p) where
-    comes_to : Standing s g r ts t y → t < 2 ^ 60 → ComesTo s g r ts (vec_items y.cycles) y.teller.clocks
-    comes_to standing early = record {
+module _ (s : Script) (c : Circuit) (t : ℕ) (y : Room) (standing : of c (Standing s) t y) where
+  abbrev runs : Machine
+  runs = of c machine_in
+
+  abbrev tells : Told
+  tells = of c (told_by s)
+
+  -- a room that stands suits its circuit
+  suits : Suits c (vec_items y.state.cycles) y.teller
+  suits = record { sized = standing.knows.sized; cycles_each = standing.roomy.cycles_each }
+
+  module _ (early : t < 2 ^ 60) where
+    comes_to : of c (ComesTo s) (vec_items y.state.cycles) (vec_items y.teller.clocks)
+    comes_to = record {
       near = standing.near;
       small = λ q h.
           let shown = (standing.stands.registers q h).shown in
-          small_clocks standing.ready small t q (get_or (vec_items y.teller.clocks.stood) q 0) h early (elim (standing.near q h) [ inl e ↦ omega (arith, e) | inr e ↦ omega (arith, e) ]);
+          small_clocks s c.gates.now c.registers.now c.times.now standing.ready c.small t q (clocks_at (vec_items y.teller.clocks) q).cycle h early
+          (elim (standing.near q h) [ inl e ↦ omega (arith, e) | inr e ↦ omega (arith, e) ]);
     }
 
-    enough : (e : Refusal) → Standing s g r ts t y → ToldOn s g r ts t (vec_items y.cycles) y.teller y'.teller → t < 2 ^ 60 →
-        TooFew g r (vec_items y.cycles) (vec_items y'.teller.delays.now) (vec_items y'.teller.shows.now) (vec_items y'.teller.clocks.now) (vec_items y'.teller.clocks.takes) e → ⊥
-    enough e standing told early few =
-        let k = (told.knows standing.knows (comes_to standing early)).sized in
-        let d = k.delays_sized in
-        let w = k.shows_sized in
-        let c = k.clocks_sized in
-        let n = standing.roomy.cycles_each in
-        elim few [
-          | inl (inl a, b) ↦ omega arith
-          | inl (inr (inl a), b) ↦ omega arith
-          | inl (inr (inr a), b) ↦ omega arith
-          | inr (a, b, f, inl (h, i)) ↦ omega arith
-          | inr (a, b, f, inr (h, i, j)) ↦ omega arith
-        ]
+    module _ (y' : Room) (told : of c (ToldOn s) t (vec_items y.state.cycles) y.teller y'.teller) (now : Now) (moment : now.moment ≡ t) (delays : now.delays.now ≡ vec_items y'.teller.delays.values)
+        (shows : now.shows.now ≡ vec_items y'.teller.shows.values) (clocks : now.clocks.now ≡ vec_items y'.teller.clocks) where
+      -- and tells enough
+      enough : (e : Refusal) → TooFew c now y.state e → ⊥
+      enough e few =
+          let k = (told.knows standing.knows comes_to).sized in
+          let d = k.delays_sized in
+          let w = k.shows_sized in
+          let l = k.clocks_sized in
+          let n = standing.roomy.cycles_each in
+          elim few [
+            | inl (inl a, b) ↦ omega arith
+            | inl (inr (inl a), b) ↦ omega (arith, ap (λ (xs : List Bool). length xs) shows)
+            | inl (inr (inr a), b) ↦ omega (arith, ap (λ (xs : List Clocks). length xs) clocks)
+            | inr (a, b, f, h, i) ↦ omega (arith, ap (λ (xs : List Delays). length xs) delays)
+          ]
 
-    went_on : Standing s g r ts t y → t < 2 ^ 60 → y'.latest ≡ y.latest → length (vec_items y'.cycles) ≡ length (vec_items y.cycles) →
-        ToldOn s g r ts t (vec_items y.cycles) y.teller y'.teller →
-        Steps g r ts t (vec_items y'.teller.delays.now) (vec_items y'.teller.shows.now) (vec_items y'.teller.clocks.now) (vec_items y'.teller.clocks.takes) y.past y'.past (vec_items y.cycles) (vec_items y'.cycles) y.bits y'.bits →
-        Standing s g r ts (suc t) y'
-    went_on standing early latest size told steps =
-        let near = comes_to standing early in
-        let given : Given g r ts x t (vec_items y'.teller.shows.now) (vec_items y'.teller.clocks.now) (vec_items y'.teller.clocks.takes) y.past (vec_items y.cycles) y.bits =
-        record { ready = ready_of standing.ready; wide = standing.roomy.wide; rows = standing.roomy.rows; told = told.registers standing.knows near; stands = standing.stands } in
-        let now = steps.goes x given (told.gates standing.knows) in
-        record {
-          ready = standing.ready;
-          roomy = record {
-            wide = wide_same steps.past_size standing.roomy.wide;
-            rows = steps.bits_size.rows_same ∙ standing.roomy.rows;
-            cycles_each = omega (arith, standing.roomy.cycles_each);
-            latest = λ q h. rw latest (standing.roomy.latest q h);
-            apart = λ q h. rw (latest, steps.bits_size.span_same) (standing.roomy.apart q h);
-            small = rw latest standing.roomy.small;
-          };
-          stands = now;
-          knows = told.knows standing.knows near;
-          near = λ q h.
-              let was = (standing.stands.registers q h).shown in
-              let is = (now.registers q h).shown in
-              let at = told.stand q h in
-              let n = at_most_next m x q t in
-              elim (cases_lt (get_or (vec_items y.cycles) q 0) (get_or (vec_items y'.cycles) q 0)) [ inl l ↦ inr (omega arith) | inr l ↦ inl (omega arith) ];
-        }
+      went_on : y'.latest ≡ y.latest → of c Steps now y.state y'.state → of c (Standing s) (suc t) y'
+      went_on latest steps =
+          let registers : (q : ℕ) → q < registers_of c → TellsRegister runs tells now.moment q (cycle_of y.state q) (get_or now.shows.now q false) (clocks_at now.clocks.now q) =
+          λ q h. rw (moment, shows, clocks) (told.registers standing.knows comes_to q h) in
+          let given : of c Given tells now y.state =
+          record { ready = ready_of s c.gates.now c.registers.now c.times.now standing.ready; wide = standing.roomy.wide; rows = standing.roomy.rows; tells = registers; stands = rw moment standing.stands } in
+          let after = rw moment at (steps.goes tells given (rw (moment, delays) (told.gates standing.knows))) in
+          record {
+            ready = standing.ready;
+            roomy = record {
+              wide = wide_same steps.past_size standing.roomy.wide;
+              rows = steps.bits_size.rows_same ∙ standing.roomy.rows;
+              cycles_each = omega (arith, standing.roomy.cycles_each, steps.cycles_size);
+              latest = λ q h. rw latest (standing.roomy.latest q h);
+              apart = λ q h. rw (latest, steps.bits_size.span_same) (standing.roomy.apart q h);
+              small = rw latest standing.roomy.small;
+            };
+            stands = after;
+            knows = told.knows standing.knows comes_to;
+            near = λ q h.
+                let was = (standing.stands.registers q h).shown in
+                let is = (after.registers q h).shown in
+                let at = told.stand q h in
+                let n = at_most_next runs tells q t in
+                elim (cases_lt (cycle_of y.state q) (cycle_of y'.state q)) [ inl l ↦ inr (omega arith) | inr l ↦ inl (omega arith) ];
+          }
 
-    -- what was lent to the step was what the teller told
-    pub gone : {T : Type 0} (res : Result T Refusal) (told : Bool) (delays clocks cycles cycles' : List ℕ) (shows takes : List Bool) → told ≡ is_ok res →
-        delays ≡ vec_items y'.teller.delays.now → shows ≡ vec_items y'.teller.shows.now → clocks ≡ vec_items y'.teller.clocks.now → takes ≡ vec_items y'.teller.clocks.takes →
-        cycles ≡ vec_items y.cycles → vec_items y'.cycles ≡ cycles' → length cycles' ≡ length cycles → y'.latest ≡ y.latest → ToldOn s g r ts t (vec_items y.cycles) y.teller y'.teller →
-        MatchResult res (λ _. Steps g r ts t delays shows clocks takes y.past y'.past cycles cycles' y.bits y'.bits) (λ e. TooFew g r cycles delays shows clocks takes e × (y'.past ≡ y.past) × (cycles' ≡ cycles) × (y'.bits ≡ y.bits)) →
-        Standing s g r ts t y → t < 2 ^ 60 → (told ≡ true) × Standing s g r ts (suc t) y'
-    gone (Ok v) went delays clocks cycles cycles' shows takes we de we' ce te ye ze size latest told steps standing early =
-        (we, went_on standing early latest (rw (ze, ← ye) size) told (rw (← de, ← we', ← ce, ← te, ← ye, ze) steps))
-    gone (Err e) went delays clocks cycles cycles' shows takes we de we' ce te ye ze size latest told few standing early =
-        absurd (enough e standing told early (rw (← de, ← we', ← ce, ← te, ← ye) few.0))
+-- a moment that is told and gone
+module _ (s : Script) (c : Circuit) (t : ℕ) (y y' : Room) (latest : y'.latest ≡ y.latest) where
+  pub gone : (res : Result (Unit {0}) Refusal) → of c (ToldOn s) t (vec_items y.state.cycles) y.teller y'.teller → (now : Now) → now.moment ≡ t → now.delays.now ≡ vec_items y'.teller.delays.values →
+      now.shows.now ≡ vec_items y'.teller.shows.values → now.clocks.now ≡ vec_items y'.teller.clocks →
+      MatchResult res (λ _. of c Steps now y.state y'.state) (λ e. TooFew c now y.state e × (y'.state ≡ y.state)) → of c (Goes s) t y y' res
+  gone (Ok v) told now moment delays shows clocks steps = record {
+    latest_same = latest;
+    goes = λ standing early. (refl, went_on s c t y standing early y' told now moment delays shows clocks latest steps);
+  }
+  gone (Err e) told now moment delays shows clocks few = record {
+    latest_same = latest;
+    goes = λ standing early. absurd (enough s c t y standing early y' told now moment delays shows clocks e few.0);
+  }
+
+  -- a room that stands is never refused
+  pub refused : (e : Refusal) → (Suits c (vec_items y.state.cycles) y.teller → ⊥) → of c (Goes s) t y y' (Err e)
+  refused e unfit = record { latest_same = latest; goes = λ standing early. absurd (unfit (suits s c t y standing)) }

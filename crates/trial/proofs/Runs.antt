@@ -1,12 +1,16 @@
 -- A run goes on, and what it gives at a cycle's end.
-use Rattle.std.proofs.Common.{◌≡◌, ℕ, suc, ◌+◌, ◌-◌, ◌*◌, ◌^◌, ◌<◌, ◌≤◌, Bool, true, false, List, ap, ◌∙◌, inl, inr, arith, Bor}
+use Rattle.std.proofs.Common.{◌≡◌, ℕ, suc, ◌+◌, ◌-◌, ◌*◌, ◌^◌, ◌<◌, ◌≤◌, Bool, true, false, List, ◌++◌, length, drop, get_or, Result, is_ok, ap, ◌∙◌, inl, inr, arith}
 use mathlib.Core.Bool.{Bool-set}
 use mathlib.Core.Logic.{∥∥₁_elim}
 use native.Mathlib.Bridge.{le_prop}
 use Rattle.std.proofs.lemmas.Nat.{le-div, mul-le}
+use Rattle.std.proofs.lemmas.List.{get_or_append_left, get_or-append_right, get_or-drop}
 use Rattle.std.proofs.lemmas.Bool.{cases_lt}
 use Rattle.circuit.specs.Filled.{Filled}
 use Rattle.circuit.specs.Lent.{register_count, early, period}
+use Rattle.circuit.specs.Checked.{registers_of}
+use Rattle.circuit.specs.declared.refusal.Refusal.{Refusal}
+use Rattle.clocks.specs.declared.bench.Bench.{Bench}
 use Rattle.circuit.proofs.Joined.{small_times}
 use Rattle.promise.specs.Machine.{Machine, machine_in, Passed, drawing}
 use Rattle.history.specs.Kept.{kept, span}
@@ -21,9 +25,16 @@ use Rattle.trial.specs.Made.{machine_of, told_to, SameCycle, CycleDone}
 use Rattle.trial.specs.Standing.{ReadyToGo, Standing, end_of, Goes}
 use Rattle.trial.proofs.Moments.{ready_of}
 
+-- values at the front of a list
+pub filled_front : {A : Type 0} (d : A) (n : ℕ) (f : ℕ → A) (before front : List A) → length front ≡ n → ((k : ℕ) → k < n → get_or front k d ≡ f k) → Filled d n f before (front ++ drop n before)
+filled_front d n f before front size all = record {
+  filled = λ k h. get_or_append_left front (drop n before) d k (omega arith) ∙ all k h;
+  rest = λ k l. let e : n + (k - n) ≡ k = omega arith in get_or-append_right front (drop n before) n k d size l ∙ get_or-drop n before (k - n) d ∙ rw e;
+}
+
 -- a room that stands goes on
-pub goes_on : (s : Script) (g r ts : List ℕ) (t : ℕ) (y y' : Room) (went : Bool) → ∥ Standing s g r ts t y ∥₁ → t < 2 ^ 60 → Goes s g r ts t y y' went → went ≡ true
-goes_on s g r ts t y y' went standing early goes = ∥∥₁_elim standing (Bool-set went true) (λ st. (goes.goes st early).0)
+pub goes_on : (s : Script) (g r ts : List ℕ) (t : ℕ) (y y' : Room) (went : Result (Unit {0}) Refusal) → ∥ Standing s g r ts t y ∥₁ → t < 2 ^ 60 → Goes s g r ts t y y' went → is_ok went ≡ true
+goes_on s g r ts t y y' went standing early goes = ∥∥₁_elim standing (Bool-set (is_ok went) true) (λ st. (goes.goes st early).0)
 
 module _ (s : Script) (g r ts : List ℕ) (t n : ℕ) (y : Room) (standing : Standing s g r ts t y) (end : t ≡ end_of ts y.latest n) (q : ℕ) (h : q < register_count r) where
   abbrev m : Machine
@@ -46,7 +57,7 @@ module _ (s : Script) (g r ts : List ℕ) (t n : ℕ) (y : Room) (standing : Sta
   ]
 
   -- and no further than its bit of that cycle is kept
-  still_kept : cycle m x q t < suc n + span y.bits
+  still_kept : cycle m x q t < suc n + span y.state.bits
   still_kept = elim (cycle_from m x ready.runnable ready.may q t h) [
     | inl z ↦ omega (arith, reached)
     | inr l ↦
@@ -57,7 +68,7 @@ module _ (s : Script) (g r ts : List ℕ) (t n : ℕ) (y : Room) (standing : Sta
         omega (arith, reached, standing.roomy.apart q h)
   ]
 
-  pub bits_at_end : kept y.bits q (suc n) ≡ run_bits m x (suc n) q
+  pub bits_at_end : kept y.state.bits q (suc n) ≡ run_bits m x (suc n) q
   bits_at_end =
       let at = standing.stands.registers q h in
       at.held (suc n) (omega (arith, at.shown, reached)) (omega (arith, at.shown, still_kept))
@@ -71,16 +82,15 @@ drawn_bits s g r ts ready passed n q h =
 
 pub same_through : {x y z : Trial} → SameCycle x y → SameCycle y z → SameCycle x z
 same_through a b = record {
-  circuit_same = b.circuit_same ∙ a.circuit_same;
-  script_same = b.script_same ∙ a.script_same;
+  bench_same = b.bench_same ∙ a.bench_same;
   done_same = b.done_same ∙ a.done_same;
   ends_same = b.ends_same ∙ a.ends_same;
 }
 
 -- the next cycle's end is not too far
-pub end_small : (z : Trial) → z.done < 2 ^ 32 → z.ends + period z.circuit.times.now < 2 ^ 60
+pub end_small : (z : Trial) → z.done < 2 ^ 32 → z.ends + period z.bench.circuit.times.now < 2 ^ 60
 end_small z few =
-    let k = z.circuit in
+    let k = z.bench.circuit in
     let p = small_times k.gates.now k.registers.now k.times.now k.small 0 in
     let o = small_times k.gates.now k.registers.now k.times.now k.small 2 in
     let l : z.room.latest ≤ 1000000 = ∥∥₁_elim z.standing le_prop (λ st. st.roomy.small) in
@@ -88,29 +98,27 @@ end_small z few =
     omega (arith, z.end)
 
 -- a run at the end of a cycle has the bits of it
-module _ (y z : Trial) (same : SameCycle y z) (q : ℕ) (h : q < register_count y.circuit.registers.now) where
-  pub cycle_bits : z.moment ≡ z.ends → kept z.room.bits q (suc y.done) ≡ run_bits (machine_of y) (told_to y) (suc y.done) q
+module _ (y z : Trial) (same : SameCycle y z) (q : ℕ) (h : q < registers_of y.bench.circuit) where
+  pub cycle_bits : z.moment ≡ z.ends → kept z.room.state.bits q (suc y.done) ≡ run_bits (machine_of y) (told_to y) (suc y.done) q
   cycle_bits over =
-      let c = same.circuit_same in
-      let f = same.script_same in
-      let e : z.moment ≡ end_of y.circuit.times.now z.room.latest y.done = over ∙ rw (← c, ← same.done_same) z.end in
-      ∥∥₁_elim z.standing (Bool-set _ _) (λ st. bits_at_end _ _ _ _ z.moment y.done z.room (rw (c, f) at st) e q h)
+      let b = same.bench_same in
+      let e : z.moment ≡ end_of y.bench.circuit.times.now z.room.latest y.done = over ∙ rw (← b, ← same.done_same) z.end in
+      ∥∥₁_elim z.standing (Bool-set _ _) (λ st. bits_at_end _ _ _ _ z.moment y.done z.room (rw b at st) e q h)
 
   pub cycle_drawn : Passed (machine_of y) → run_bits (machine_of y) (told_to y) (suc y.done) q ≡ drawing (machine_of y) (told_to y).start (suc y.done) q
   cycle_drawn passed = ∥∥₁_elim y.standing (Bool-set _ _) (λ st. drawn_bits _ _ _ _ st.ready passed (suc y.done) q h)
 
 -- the next cycle is done
-pub cycle_is_done : (y z y' : Trial) (before after : List Bool) → SameCycle y z → z.moment ≡ z.ends → y'.circuit ≡ z.circuit → y'.script ≡ z.script → y'.done ≡ z.done + 1 →
-    Filled false (register_count y.circuit.registers.now) (λ r. kept z.room.bits r (z.done + 1)) before after → CycleDone y y' before after
-cycle_is_done y z y' before after same over c f d copied =
+pub cycle_is_done : (y z y' : Trial) (before after : List Bool) → SameCycle y z → z.moment ≡ z.ends → y'.bench ≡ z.bench → y'.done ≡ z.done + 1 →
+    Filled false (registers_of y.bench.circuit) (λ r. kept z.room.state.bits r (z.done + 1)) before after → CycleDone y y' before after
+cycle_is_done y z y' before after same over b d copied =
     let done : z.done + 1 ≡ suc y.done = omega (arith, same.done_same) in
     record {
-      circuit_same = c ∙ same.circuit_same;
-      script_same = f ∙ same.script_same;
+      bench_same = b ∙ same.bench_same;
       one_more = d ∙ done;
       bits = record { filled = λ q h. rw done at (copied.filled q h) ∙ cycle_bits y z same q h over; rest = copied.rest };
       drawn = λ passed q h. cycle_drawn y z same q h passed;
     }
 
-pub same_cycles : (x y : Trial) → SameCycle x y → y.script.now.cycles ≡ x.script.now.cycles
-same_cycles x y same = ap (λ (s : Bor Script). s.now.cycles) same.script_same
+pub same_cycles : (x y : Trial) → SameCycle x y → y.bench.script.now.cycles ≡ x.bench.script.now.cycles
+same_cycles x y same = ap (λ (b : Bench). b.script.now.cycles) same.bench_same

@@ -1,5 +1,6 @@
 -- A room before the first moment.
-use Rattle.std.proofs.Common.{◌≡◌, ℕ, ◌+◌, ◌-◌, ◌/◌, ◌<◌, ◌≤◌, max, Bool, List, get_or, IfOk, Ok, Err, vec_items, Result, sym, refl, ap, ◌∙◌, inl, inr, arith}
+use Rattle.std.proofs.Common.{◌≡◌, ℕ, zero, suc, ◌+◌, ◌-◌, ◌/◌, ◌<◌, ◌≤◌, max, Bool, List, [], ◌∷◌, length, map, unwrap_or, get_or, IfOk, IsErrAnd, MatchResult, Ok, Err, Result, sym, refl, ap, ◌∙◌, inl, inr, arith}
+use Rattle.std.specs.List.{fold, reduce}
 use Rattle.std.proofs.lemmas.Nat.{le-div, div-add-mod'}
 use Rattle.std.proofs.lemmas.Bool.{cases_eq}
 use Rattle.circuit.specs.Lent.{gate_count, register_count, gate_in, early, period, setup, output_late}
@@ -8,9 +9,16 @@ use Rattle.promise.specs.Machine.{machine_in}
 use Rattle.history.specs.declared.history.History.{History}
 use Rattle.history.specs.Kept.{kept, Put, Fresh}
 use Rattle.simulation.specs.Simulated.{cycle, bits}
-use Rattle.step.specs.Stands.{Wide, Stands}
+use Rattle.step.specs.Stands.{Wide, Stands, cycle_of}
+use Rattle.step.specs.declared.state.State.{State}
 use Rattle.script.specs.declared.script.Script.{Script}
-use Rattle.script.specs.Told.{start_told, told_by}
+use Rattle.script.specs.Told.{start_told, told_by, Fits}
+use Rattle.circuit.specs.Checked.{of}
+use Rattle.circuit.specs.declared.circuit.Circuit.{Circuit}
+use Rattle.promise.proofs.Lent.{formed_in}
+use Rattle.trial.specs.declared.stop.Stop.{Stop}
+use Rattle.trial.specs.declared.stop.Stop.TheVariants.{Memory}
+use Rattle.trial.specs.Stopped.{Stopped}
 use Rattle.trial.specs.declared.room.Room.{Room}
 use Rattle.trial.specs.Standing.{ReadyToGo, Started, BitsReady, Furnished, Standing}
 
@@ -21,6 +29,42 @@ less_apart a b k pos l = le-div (a / k) b k pos (omega (arith, div-add-mod' a k)
 pub made_so : {X Y : Type 0} (r : Result X Y) (P Q : X → Type 0) → ((x : X) → P x → Q x) → IfOk r P → IfOk r Q
 made_so (Ok x) P Q so p = so x p
 made_so (Err y) P Q so p = tt
+
+-- no size is above the greatest, and that is above no bound of them all
+module _ {T : Type 0} (size : T → ℕ) where
+  abbrev pub greatest_of : List T → ℕ
+  greatest_of xs = unwrap_or (reduce max (map size xs)) 0
+
+  above : (a : ℕ) (xs : List T) → a ≤ fold max a (map size xs)
+  above a [] = omega arith
+  above a (x ∷ xs) = omega (arith, above (max a (size x)) xs)
+
+  each_below : (a : ℕ) (xs : List T) (k : ℕ) (d : T) → k < length xs → size (get_or xs k d) ≤ fold max a (map size xs)
+  each_below a [] k d h = absurd (omega arith)
+  each_below a (x ∷ xs) zero d h = omega (arith, above (max a (size x)) xs)
+  each_below a (x ∷ xs) (suc k) d h = each_below (max a (size x)) xs k d (omega arith)
+
+  at_most_greatest : (xs : List T) (k : ℕ) (d : T) → k < length xs → size (get_or xs k d) ≤ greatest_of xs
+  at_most_greatest [] k d h = absurd (omega arith)
+  at_most_greatest (x ∷ xs) zero d h = above (size x) xs
+  at_most_greatest (x ∷ xs) (suc k) d h = each_below (size x) xs k d (omega arith)
+
+  all_within : (b a : ℕ) (xs : List T) (d : T) → a ≤ b → ((k : ℕ) → k < length xs → size (get_or xs k d) ≤ b) → fold max a (map size xs) ≤ b
+  all_within b a [] d l all = l
+  all_within b a (x ∷ xs) d l all = all_within b (max a (size x)) xs d (omega (arith, all 0 (omega arith))) (λ k h. all (suc k) (omega arith))
+
+  greatest_within : (b : ℕ) (xs : List T) (d : T) → ((k : ℕ) → k < length xs → size (get_or xs k d) ≤ b) → greatest_of xs ≤ b
+  greatest_within b [] d all = omega arith
+  greatest_within b (x ∷ xs) d all = all_within b (size x) xs d (all 0 (omega arith)) (λ k h. all (suc k) (omega arith))
+
+-- the same of rows of numbers by what they stand for
+module _ {R : Type 0} (size : R → ℕ) (as_row : List ℕ → R) (row : ℕ → R) (rows : List (List ℕ)) {n most : ℕ} (count : length rows ≡ n) (each : (k : ℕ) → k < n → as_row (get_or rows k []) ≡ row k)
+    (is : most ≡ greatest_of (λ x. size (as_row x)) rows) where
+  pub most_of_rows : (k : ℕ) → k < n → size (row k) ≤ most
+  most_of_rows k h = rw is (rw (each k h) at (at_most_greatest (λ x. size (as_row x)) rows k [] (omega arith)))
+
+  pub rows_within : (b : ℕ) → ((k : ℕ) → k < n → size (row k) ≤ b) → most ≤ b
+  rows_within b all = rw is (greatest_within (λ x. size (as_row x)) b rows [] (λ k h. let l : k < n = omega arith in rw (each k l) (all k l)))
 
 -- a history that goes back further than any delay and any register's decision
 pub wide_enough : (g r ts : List ℕ) (back seen most : ℕ) (h : History) → Fresh h (register_count r + gate_count g) back → seen ≡ output_late ts + setup ts → back ≡ max seen most →
@@ -46,22 +90,21 @@ module _ (s : Script) (g r ts : List ℕ) where
   }
 
   -- no moment has gone, and all registers stand in cycle 0
-  stands_first : (past after : History) (cycles : List ℕ) → ((q : ℕ) → get_or cycles q 0 ≡ 0) → ((q : ℕ) → q < register_count r → kept after q 0 ≡ start_told s g r ts q) →
-      Stands (machine_in g r ts) (told_by s g r ts) 0 past cycles after
+  stands_first : (b : State) → ((q : ℕ) → cycle_of b q ≡ 0) → ((q : ℕ) → q < register_count r → kept b.bits q 0 ≡ start_told s g r ts q) → Stands (machine_in g r ts) (told_by s g r ts) 0 b
   unfolding cycle bits told_by
-  stands_first past after cycles zero started = record {
+  stands_first b first started = record {
     remembers = λ k u h l q near. absurd (omega (arith, q (omega arith)));
-    registers = λ q h. rw (zero q) (record { shown = refl; held = λ i l near. let e : i ≡ 0 = omega arith in rw e (started q h) });
+    registers = λ q h. rw (first q) (record { shown = refl; held = λ i l near. let e : i ≡ 0 = omega arith in rw e (started q h) });
   }
 
   -- bits for as many cycles as two registers can be apart
-  pub bits_ready : (latest earliest apart : ℕ) (start after : History) → 0 < period ts → ((q : ℕ) → q < register_count r → earliest ≤ early r q) → apart ≡ (latest - earliest) / period ts → Fresh start (register_count r) apart →
+  pub bits_ready : (latest far apart : ℕ) (start after : History) → 0 < period ts → ((q : ℕ) → q < register_count r → latest - early r q ≤ far) → apart ≡ far / period ts → Fresh start (register_count r) apart →
       (start.rows ≡ register_count r → Started s g r ts (register_count r) start after) → BitsReady s g r ts latest after
-  bits_ready latest earliest apart start after some least is fresh started =
+  bits_ready latest far apart start after some all is fresh started =
       let now = started fresh.rows_are in
       record {
         rows = now.rows_same ∙ fresh.rows_are;
-        apart = λ q h. rw now.span_same (omega (arith, fresh.long, less_apart (latest - early r q) (latest - earliest) (period ts) some (omega (arith, least q h))));
+        apart = λ q h. rw now.span_same (omega (arith, fresh.long, less_apart (latest - early r q) far (period ts) some (all q h)));
         start = now.bits;
       }
 
@@ -70,7 +113,21 @@ module _ (s : Script) (g r ts : List ℕ) where
   stands_furnished y ready f = record {
     ready = ready;
     roomy = f.roomy;
-    stands = stands_first y.past y.bits (vec_items y.cycles) f.cycles f.bits;
+    stands = stands_first y.state f.cycles f.bits;
     knows = f.begins.knows;
     near = λ q h. inl (f.cycles q ∙ sym (f.begins.stand q));
   }
+
+-- a circuit and a script that fit can go
+pub ready_in : (s : Script) (c : Circuit) → of c (Fits s) → (0 < period c.times.now) × (0 < setup c.times.now + output_late c.times.now) → of c (ReadyToGo s)
+ready_in s c fits times = record {
+  formed = formed_in c.gates.now c.registers.now c.times.now c.placed c.ranged c.tied c.ordered;
+  fits = fits;
+  some_period = times.0;
+  some_moment = times.1;
+}
+
+-- memory is short, with which they could
+pub out_of_memory : {s : Script} {g r ts : List ℕ} (res : Result Room Stop) → IsErrAnd res (λ e. e ≡ Memory) → ReadyToGo s g r ts → MatchResult res (λ y. Standing s g r ts 0 y) (λ e. Stopped s g r ts e)
+out_of_memory (Ok y) short ready = absurd short
+out_of_memory (Err e) short ready = rw short ready

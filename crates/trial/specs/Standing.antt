@@ -1,10 +1,12 @@
 -- A bench with what it is told, before a moment.
-use Rattle.std.specs.Prelude.{◌≡◌, ℕ, suc, ◌+◌, ◌-◌, ◌*◌, ◌/◌, ◌^◌, ◌<◌, ◌≤◌, Bool, true, ◌⊎◌, List, length, vec_items, slice_index}
+use Rattle.std.specs.Prelude.{◌≡◌, ℕ, suc, ◌+◌, ◌-◌, ◌*◌, ◌/◌, ◌^◌, ◌<◌, ◌≤◌, true, ◌⊎◌, List, length, Result, is_ok, vec_items}
 use Rattle.circuit.specs.Lent.{register_count, early, late, period, setup, output_late}
+use Rattle.circuit.specs.declared.refusal.Refusal.{Refusal}
 use Rattle.promise.specs.Machine.{machine_in, Formed}
 use Rattle.history.specs.declared.history.History.{History}
 use Rattle.history.specs.Kept.{kept, span}
-use Rattle.step.specs.Stands.{Wide, Stands}
+use Rattle.step.specs.Lent.{clocks_at}
+use Rattle.step.specs.Stands.{Wide, Stands, cycle_of}
 use Rattle.script.specs.declared.script.Script.{Script}
 use Rattle.script.specs.Told.{start_told, told_by, Fits}
 use Rattle.telling.specs.Knows.{Knows, Begins}
@@ -20,11 +22,11 @@ pub record ReadyToGo (s : Script) (g r ts : List ℕ) : Type 0 where
 -- a room is of the right size for a circuit: its history goes back far enough, and it keeps registers' bits for more cycles than any two registers, one at its latest and one at its
 -- earliest, can be apart
 pub record Roomy (g r ts : List ℕ) (y : Room) : Type 0 where
-  pub wide : Wide (machine_in g r ts) y.past
-  pub rows : y.bits.rows ≡ register_count r
-  pub cycles_each : register_count r ≤ length (vec_items y.cycles)
+  pub wide : Wide (machine_in g r ts) y.state.past
+  pub rows : y.state.bits.rows ≡ register_count r
+  pub cycles_each : register_count r ≤ length (vec_items y.state.cycles)
   pub latest : (q : ℕ) → q < register_count r → late r q ≤ y.latest
-  pub apart : (q : ℕ) → q < register_count r → (y.latest - early r q) / period ts < span y.bits
+  pub apart : (q : ℕ) → q < register_count r → (y.latest - early r q) / period ts < span y.state.bits
   pub small : y.latest ≤ 1000000
 
 -- the bits of cycle 0 of the registers below i are those of the start
@@ -42,24 +44,24 @@ pub record BitsReady (s : Script) (g r ts : List ℕ) (latest : ℕ) (bits : His
 -- a room that is made for a circuit and a script, before the first moment
 pub record Furnished (s : Script) (g r ts : List ℕ) (y : Room) : Type 0 where
   pub roomy : Roomy g r ts y
-  pub bits : (q : ℕ) → q < register_count r → kept y.bits q 0 ≡ start_told s g r ts q
-  pub cycles : (q : ℕ) → slice_index (vec_items y.cycles) q ≡ 0
+  pub bits : (q : ℕ) → q < register_count r → kept y.state.bits q 0 ≡ start_told s g r ts q
+  pub cycles : (q : ℕ) → cycle_of y.state q ≡ 0
   pub begins : Begins s g r ts y.teller
 
 -- THE ROOM STANDS before moment t: all that it holds is that of the run which the script tells
 pub record Standing (s : Script) (g r ts : List ℕ) (t : ℕ) (y : Room) : Type 0 where
   pub ready : ReadyToGo s g r ts
   pub roomy : Roomy g r ts y
-  pub stands : Stands (machine_in g r ts) (told_by s g r ts) t y.past (vec_items y.cycles) y.bits
+  pub stands : Stands (machine_in g r ts) (told_by s g r ts) t y.state
   pub knows : Knows s g r ts t y.teller
   pub near : (q : ℕ) → q < register_count r →
-      (slice_index (vec_items y.cycles) q ≡ slice_index (vec_items y.teller.clocks.stood) q) ⊎ (slice_index (vec_items y.cycles) q ≡ suc (slice_index (vec_items y.teller.clocks.stood) q))
+      (cycle_of y.state q ≡ (clocks_at (vec_items y.teller.clocks) q).cycle) ⊎ (cycle_of y.state q ≡ suc (clocks_at (vec_items y.teller.clocks) q).cycle)
 
 -- the moment by which every register has its bit of the cycle after n: past its latest clock by the latest output time
 abbrev pub end_of : (ts : List ℕ) (latest n : ℕ) → ℕ
 end_of ts latest n = suc n * period ts + latest + output_late ts + 1
 
 -- a room that stands before moment t went on, and stands before the next
-pub record Goes (s : Script) (g r ts : List ℕ) (t : ℕ) (y y' : Room) (went : Bool) : Type 0 where
+pub record Goes (s : Script) (g r ts : List ℕ) (t : ℕ) (y y' : Room) (went : Result (Unit {0}) Refusal) : Type 0 where
   pub latest_same : y'.latest ≡ y.latest
-  pub goes : Standing s g r ts t y → t < 2 ^ 60 → (went ≡ true) × Standing s g r ts (suc t) y'
+  pub goes : Standing s g r ts t y → t < 2 ^ 60 → (is_ok went ≡ true) × Standing s g r ts (suc t) y'

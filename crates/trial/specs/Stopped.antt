@@ -6,6 +6,7 @@ use Rattle.script.specs.Told.{Fits}
 use Rattle.fitting.specs.declared.unfit.Unfit.{Unfit}
 use Rattle.fitting.specs.declared.unfit.Unfit.TheVariants.{NoPeriod, NoMoment}
 use Rattle.fitting.specs.Misfit.{Misfit}
+use Rattle.trial.specs.Standing.{ReadyToGo}
 use Rattle.trial.specs.declared.stop.Stop.{Stop}
 use Rattle.trial.specs.declared.stop.Stop.TheVariants.{Refused, Memory}
 
@@ -13,7 +14,7 @@ use Rattle.trial.specs.declared.stop.Stop.TheVariants.{Refused, Memory}
 abbrev pub Timeless : (ts : List ℕ) → Unfit → Type 0
 Timeless ts e = ((period ts ≡ 0) × (e ≡ NoPeriod)) ⊎ ((0 < period ts) × (setup ts + output_late ts ≡ 0) × (e ≡ NoMoment))
 
--- a statement out of its bounds, by the first such line; else times with which no run is possible; else want of memory
+-- a statement out of its bounds, by the first such line; else times with which no run is possible; else want of memory, with which a run could be made
 abbrev pub Stopped : (s : Script) (g r ts : List ℕ) → Stop → Type 0
 Stopped s g r ts (Refused e) = Misfit s g r ts e ⊎ (Fits s g r ts × Timeless ts e)
-Stopped s g r ts Memory = Unit {0}
+Stopped s g r ts Memory = ReadyToGo s g r ts

@@ -1,31 +1,24 @@
 // One moment.
+ghost use Rattle.circuit.specs.Checked.{of};
 ghost use Rattle.trial.specs.Standing.{Goes};
 
 use crate::room::Room;
-use circuit::Circuit;
-use script::Script;
-use step::{Now, step};
+use circuit::Refusal;
+use clocks::Bench;
+use step::Now;
 
-// One moment, told and gone; false where the room does not suit the circuit.
-pub(crate) fn go(circuit: Circuit<'_>, script: &Script, t: u64, room: &mut Room) -> bool
-    ensures { Goes script.now circuit.entry.gates.now circuit.entry.registers.now circuit.entry.times.now t room.old room.new result }
-{
-    if !room.teller.tell(circuit, script, t, &room.cycles) {
-        return false;
+impl Room {
+    // One moment, told and gone; refused where the room does not suit the circuit.
+    pub(crate) fn go(&mut self, bench: Bench<'_>, t: u64) -> Result<(), Refusal>
+        ensures { of bench.entry.circuit (Goes bench.entry.script.now) t self.old self.new result }
+    {
+        self.teller.tell(bench, t, &self.state.cycles)?;
+        let told = Now {
+            moment: t,
+            delays: &self.teller.delays.values,
+            shows: &self.teller.shows.values,
+            clocks: &self.teller.clocks,
+        };
+        self.state.step(bench.circuit, told)
     }
-    let told = Now {
-        delays: &room.teller.delays.now,
-        shows: &room.teller.shows.now,
-        clocks: &room.teller.clocks.now,
-        takes: &room.teller.clocks.takes,
-    };
-    step(
-        circuit,
-        told,
-        t,
-        &mut room.past,
-        &mut room.bits,
-        &mut room.cycles,
-    )
-    .is_ok()
 }

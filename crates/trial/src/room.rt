@@ -1,14 +1,11 @@
 // The memory of a bench.
-use history::History;
+use step::State;
 use telling::Teller;
 
-// What the signals were, the registers' bits of their last cycles, the cycle in which each register stands, what is told,
-// and the latest that a clock comes.
+// How far the run has come, what is told, and the latest that a clock comes in its cycle.
 #[derive(Drop)]
 pub struct Room {
-    pub past: History,
-    pub(crate) bits: History,
-    pub(crate) cycles: Vec<u64>,
+    pub state: State,
     pub teller: Teller,
     pub(crate) latest: u32,
 }

@@ -1,6 +1,7 @@
 // Circuits that are gone through time, told and by a seed.
 use crate::arrival_trials::{COUNTER, INVERTER, ONE, TWO};
-use circuit::{Circuit, Refusal, look};
+use circuit::{Circuit, Numbers, Refusal};
+use clocks::Bench;
 use fitting::Unfit;
 use script::{Entry, Kind, Script};
 use std::alloc::{AllocError, Global};
@@ -11,16 +12,22 @@ use trial::{Stop, Trial, prepare};
 #[test]
 fn counter_by_a_seed(rt: HostRuntime) -> Result<(), Fail> {
     let times = [18, 2, 4, 3, 1];
-    look(&COUNTER, &TWO, &times)?;
-    let c = Circuit::new(&COUNTER, &TWO, &times);
+    let circuit = Circuit::try_from(Numbers {
+        gates: &COUNTER,
+        registers: &TWO,
+        times: &times,
+    })?;
     let mut script = Script::new(rt.alloc());
     script.cycles = 9;
     script.seed = Some(7);
     script.start = Some(vec![in rt.alloc(); false; 2]?);
     let mut gone = 0;
     let mut bits = [false; 2];
-    if let Ok(room) = prepare(rt.alloc(), c, &script) {
-        let mut run = Trial::new(c, &script, room);
+    let bench = Bench {
+        circuit,
+        script: &script,
+    };
+    if let Ok(mut run) = Trial::prepare(rt.alloc(), bench) {
         for n in 1..10u32 {
             assert_eq!(rt; run.cycle(&mut bits), Ok(true));
             assert!(rt; u32::from(bits[0]) + 2 * u32::from(bits[1]) == n % 4);
@@ -53,15 +60,27 @@ fn slow(heap: Global) -> Result<Script, AllocError> {
     Ok(script)
 }
 
+// The inverter with these times.
+fn inverter(times: &[u32]) -> Result<Circuit<'_>, Refusal> {
+    Circuit::try_from(Numbers {
+        gates: &INVERTER,
+        registers: &ONE,
+        times,
+    })
+}
+
 // The inverter's bit after two cycles with this period.
 fn inverted(rt: &HostRuntime, period: u32) -> Result<Option<bool>, Fail> {
     let times = [period, 2, 4, 3, 1];
-    look(&INVERTER, &ONE, &times)?;
-    let c = Circuit::new(&INVERTER, &ONE, &times);
+    let circuit = inverter(&times)?;
     let script = slow(rt.alloc())?;
     let mut bits = [false];
-    if let Ok(room) = prepare(rt.alloc(), c, &script) {
-        let mut run = Trial::new(c, &script, room);
+    let bench = Bench {
+        circuit,
+        script: &script,
+    };
+    if let Ok(room) = prepare(rt.alloc(), bench) {
+        let mut run = Trial::new(bench, room);
         if run.cycle(&mut bits)? && bits[0] && run.cycle(&mut bits)? {
             return Ok(Some(bits[0]));
         }
@@ -79,11 +98,14 @@ fn too_late_goes_wrong(rt: HostRuntime) -> Result<(), Fail> {
 
 // Why the inverter with these times is not let go with this statement.
 fn refused(rt: &HostRuntime, times: &[u32], kind: Kind, e: Entry) -> Result<Option<Unfit>, Fail> {
-    look(&INVERTER, &ONE, times)?;
-    let c = Circuit::new(&INVERTER, &ONE, times);
+    let circuit = inverter(times)?;
     let mut script = Script::new(rt.alloc());
     script.push(kind, e)?;
-    match prepare(rt.alloc(), c, &script) {
+    let bench = Bench {
+        circuit,
+        script: &script,
+    };
+    match prepare(rt.alloc(), bench) {
         Err(Stop::Refused(unfit)) => Ok(Some(unfit)),
         _ => Ok(None),
     }

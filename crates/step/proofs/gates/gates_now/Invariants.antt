@@ -1,7 +1,7 @@
 use Rattle.std.proofs.Common.{◌+◌}
-use Rattle.circuit.specs.Lent.{register_count}
+use Rattle.circuit.specs.Checked.{of, registers_of}
 use Rattle.step.specs.Stands.{Settles}
 use Rattle.step.proofs.gates.gates_now.Given as goal
 
 abbrev pub invariant-loop-k : goal.invariant-loop-k
-invariant-loop-k l = Settles l.circuit.gates.now l.circuit.registers.now l.circuit.times.now l.t l.delays (register_count l.circuit.registers.now + l.k) l.initial.past l.past
+invariant-loop-k l = of l.fn.circuit Settles l.fn.told.moment l.fn.told.delays.now (registers_of l.fn.circuit + l.k) l.initial.past l.past

@@ -1,0 +1,6 @@
+use Rattle.std.proofs.Common.{ℕ, ◌<◌, None, slice_index_or}
+use Rattle.std.specs.List.{HoldsAt}
+use Rattle.telling.proofs.part.fill.Given as goal
+
+abbrev pub invariant-loop-k : goal.invariant-loop-k
+invariant-loop-k g l = (k : ℕ) → k < l.k → HoldsAt (g.F.Fn.post l.value (k, (slice_index_or l.said k None, tt))) l.values k

@@ -1,0 +1,66 @@
+// What is told of a gate or register by what is said of it.
+ghost use Rattle.std.specs.Prelude.{◌≡◌};
+ghost use Rattle.circuit.specs.Checked.{of};
+ghost use Rattle.circuit.specs.Lent.{gate_in};
+ghost use Rattle.telling.specs.Said.{one_chosen, two_chosen, one_of, two_of, show_of};
+
+use circuit::Gate;
+use clocks::Bench;
+use script::{Choice, Entry, chance};
+use step::Delays;
+
+// The delays of gate `k` at moment `t` by a seed, within bounds.
+fn chosen(gate: Gate, seed: u64, k: usize, t: u64) -> Delays
+    ensures one { result.one ≡ one_chosen seed gate k t }
+    ensures two { result.two ≡ two_chosen seed gate k t }
+{
+    let h = Choice::Delay.draw(seed, k as u64, t);
+    let one = chance::between(
+        h >> 32,
+        u64::from(gate.least_one),
+        u64::from(gate.greatest_one),
+    );
+    let two = chance::between(h, u64::from(gate.least_two), u64::from(gate.greatest_two));
+    Delays {
+        one: one as u32,
+        two: two as u32,
+    }
+}
+
+// Gate `k`, or one of zeros where there is none. (One function for this and for registers, two lines each, would need a
+// trait of rows with its law.)
+fn gate_of(bench: Bench<'_>, k: usize) -> Gate
+    ensures { result ≡ gate_in bench.entry.circuit.gates.now k }
+{
+    let numbers = bench.circuit.gates().get(k).copied();
+    Gate::from(numbers.unwrap_or([0; 7]))
+}
+
+// The delays of gate `k` at moment `t`: as said, else by the seed within bounds, else the least.
+pub(crate) fn delays_of(bench: Bench<'_>, k: usize, t: u64, said: Option<Entry>) -> Delays
+    ensures one { result.one ≡ one_of bench.entry.script.now.seed bench.entry.circuit.gates.now k t said }
+    ensures two { result.two ≡ two_of bench.entry.script.now.seed bench.entry.circuit.gates.now k t said }
+{
+    let gate = gate_of(bench, k);
+    let said = said.map(|e| Delays {
+        one: e.one,
+        two: e.two,
+    });
+    let chosen = bench.script.seed.map(|seed| chosen(gate, seed, k, t));
+    said.or(chosen).unwrap_or(Delays {
+        one: gate.least_one,
+        two: gate.least_two,
+    })
+}
+
+// What register `r` shows at moment `t` where it may show anything: as said, else by the seed, else 0.
+pub(crate) fn show_of(bench: Bench<'_>, r: usize, t: u64, said: Option<Entry>) -> bool
+    ensures { result ≡ show_of bench.entry.script.now.seed r t said }
+{
+    let said = said.map(Entry::bit);
+    let chosen = bench
+        .script
+        .seed
+        .map(|seed| chance::odd(Choice::Show.draw(seed, r as u64, t)));
+    said.or(chosen).unwrap_or(false)
+}
