@@ -53,8 +53,8 @@ unfoldable pub told : Edge → Circuit → (ℕ → ℕ) → ℕ → ℕ × Step
 told e c s = along (step e c s) c.inputs c.gates (λ i. (i, []))
 
 -- the same of a circuit that was looked at, over its registers' times
-abbrev pub told_to : Edge → checked.Circuit → ℕ → ℕ × Steps
-told_to e c = told e (drawn c.gates.now c.registers.now) (source e c.registers.now c.times.now)
+abbrev pub told_path : Edge → checked.Circuit → ℕ → ℕ × Steps
+told_path e c = told e (drawn c.gates.now c.registers.now) (source e c.registers.now c.times.now)
 
 -- p is the first path from a source to signal k by which its time is reached, and begins at i
 pub record Told (e : Edge) (c : Circuit) (s : ℕ → ℕ) (k i : ℕ) (p : Steps) : Type 0 where

@@ -6,7 +6,7 @@ ghost use Rattle.circuit.specs.Checked.{of, gates_of, registers_of, signals_of};
 ghost use Rattle.circuit.specs.Lent.{gate_in};
 ghost use Rattle.arrival.specs.Arrival.{delay};
 ghost use Rattle.arrival.specs.Lent.{time_of};
-ghost use Rattle.path.specs.Path.{input, by_second, told_to, written, BeginsWith, PathTold, PathRefused, NoneWorse, ToldIsFirst};
+ghost use Rattle.path.specs.Path.{input, by_second, told_path, written, BeginsWith, PathTold, PathRefused, NoneWorse, ToldIsFirst};
 
 use arrival::{Arrivals, Edge};
 use circuit::{Gate, Refusal};
@@ -47,7 +47,7 @@ fn back(a: Arrivals<'_, '_>, edge: Edge, k: usize) -> Step
 // How many gates are on the path to signal `to`.
 fn gates_on(a: Arrivals<'_, '_>, edge: Edge, to: usize) -> usize
     requires { to < signals_of a.circuit }
-    ensures steps { result ≡ length (told_to edge a.entry.circuit to).1 }
+    ensures steps { result ≡ length (told_path edge a.entry.circuit to).1 }
     ensures few { result ≤ to }
 {
     let n = a.circuit.register_count();
@@ -72,9 +72,9 @@ fn put_step(out: &mut [u32], i: usize, gate: u32, second: bool)
 // Writes the path to signal `to`, which goes through `count` gates, from its end to its beginning.
 fn put(a: Arrivals<'_, '_>, edge: Edge, to: usize, count: usize, out: &mut [u32])
     requires signal { to < signals_of a.circuit }
-    requires steps { count ≡ length (told_to edge a.circuit to).1 }
+    requires steps { count ≡ length (told_path edge a.circuit to).1 }
     requires room { 1 + 2 * count ≤ length out.old }
-    ensures { BeginsWith (written (registers_of a.entry.circuit) (told_to edge a.entry.circuit to)) out.old out.new }
+    ensures { BeginsWith (written (registers_of a.entry.circuit) (told_path edge a.entry.circuit to)) out.old out.new }
 {
     let n = a.circuit.register_count();
     let mut at = to;

@@ -8,7 +8,7 @@ use Rattle.promise.specs.Machine.{machine_in, Formed}
 use Rattle.script.specs.declared.entry.Entry.{Entry}
 use Rattle.script.specs.declared.script.Script.{Script}
 use Rattle.script.specs.declared.chance.Choice.TheVariants.{Clock}
-use Rattle.script.specs.Choices.{drawn}
+use Rattle.script.specs.Choices.{drawn_for}
 use Rattle.script.specs.Entries.{due, on, said_by, said_in}
 use Rattle.script.specs.Told.{one_told, two_told, clock_between, clock_told, told_by, Fits, MayBeTold}
 use Rattle.script.proofs.Choosing.{between_in}
@@ -59,7 +59,7 @@ module _ (s : Script) (g r ts : List ℕ) (formed : Formed (machine_in g r ts)) 
   clock_in n q low high a b c =
       told_either (λ d. (n * period ts + early r q ≤ d) × (d ≤ n * period ts + late r q)) (said_in s.clocks n q) (λ e. n * period ts + e.one) s.seed _ _
       (λ e found. let t = clock_said n q e found in (omega (arith, t.0), omega (arith, t.1)))
-      (λ k. let i = between_in (drawn k Clock n q) low high b in (omega (arith, i.0), omega (arith, i.1)))
+      (λ k. let i = between_in (drawn_for k Clock n q) low high b in (omega (arith, i.0), omega (arith, i.1)))
       (omega arith, omega arith)
 
   module _ (some : 0 < period ts) where
@@ -77,7 +77,7 @@ module _ (s : Script) (g r ts : List ℕ) (formed : Formed (machine_in g r ts)) 
         let low = max (suc n * period ts + early r q) (suc (clock_told s g r ts n q)) in
         told_either (λ d. clock_told s g r ts n q < d) (said_in s.clocks (suc n) q) (λ e. suc n * period ts + e.one) s.seed _ _
         (λ e found. (clock_said (suc n) q e found).2 n refl)
-        (λ k. omega (arith, (between_in (drawn k Clock (suc n) q) (max (suc n * period ts + early r q) (suc (clock_told s g r ts n q))) (suc n * period ts + late r q) (omega (arith, formed.clocked q h))).0))
+        (λ k. omega (arith, (between_in (drawn_for k Clock (suc n) q) (max (suc n * period ts + early r q) (suc (clock_told s g r ts n q))) (suc n * period ts + late r q) (omega (arith, formed.clocked q h))).0))
         (omega arith)
 
 pub may_be_told : MayBeTold

@@ -5,13 +5,13 @@ use Rattle.script.specs.declared.chance.Choice.TheVariants.{Start, Delay, Show, 
 use Rattle.script.specs.Chance.{drawn_from}
 
 -- a kind of choice has its own number
-abbrev pub number_of : Choice → ℕ
-number_of Start = 0
-number_of Delay = 1
-number_of Show = 2
-number_of Clock = 3
-number_of Take = 4
+abbrev pub choice_number : Choice → ℕ
+choice_number Start = 0
+choice_number Delay = 1
+choice_number Show = 2
+choice_number Clock = 3
+choice_number Take = 4
 
 -- the number of 64 bits that belongs to a seed, a kind of choice, and two numbers
-abbrev pub drawn : (seed : ℕ) → Choice → (a b : ℕ) → ℕ
-drawn seed c a b = drawn_from seed (number_of c) a b
+abbrev pub drawn_for : (seed : ℕ) → Choice → (a b : ℕ) → ℕ
+drawn_for seed c a b = drawn_from seed (choice_number c) a b

@@ -8,32 +8,32 @@ use Rattle.script.specs.declared.entry.Entry.{Entry}
 use Rattle.script.specs.declared.script.Script.{Script}
 use Rattle.script.specs.declared.chance.Choice.TheVariants.{Start, Delay, Show, Clock, Take}
 use Rattle.script.specs.Chance.{between, odd}
-use Rattle.script.specs.Choices.{drawn}
+use Rattle.script.specs.Choices.{drawn_for}
 use Rattle.script.specs.Entries.{entry, bit_said, said_by, said_in}
 
 module _ (s : Script) (g r ts : List ℕ) where
   -- a register's bit at the start: as told, else chosen by the seed, else 0
   abbrev pub start_told : ℕ → Bool
-  start_told q = option_map_or (λ bits. slice_index_or (vec_items bits) q false) s.start (option_map_or (λ n. odd (drawn n Start q 0)) s.seed false)
+  start_told q = option_map_or (λ bits. slice_index_or (vec_items bits) q false) s.start (option_map_or (λ n. odd (drawn_for n Start q 0)) s.seed false)
 
   -- the two delays of gate k at moment t: as told last, else chosen by the seed within bounds, else the least
   abbrev pub one_told : (k t : ℕ) → ℕ
-  one_told k t = option_map_or (λ e. e.one) (said_by s.delays t k) (option_map_or (λ n. between (drawn n Delay k t / 2 ^ 32) (gate_in g k).least_one (gate_in g k).greatest_one) s.seed (gate_in g k).least_one)
+  one_told k t = option_map_or (λ e. e.one) (said_by s.delays t k) (option_map_or (λ n. between (drawn_for n Delay k t / 2 ^ 32) (gate_in g k).least_one (gate_in g k).greatest_one) s.seed (gate_in g k).least_one)
 
   abbrev pub two_told : (k t : ℕ) → ℕ
-  two_told k t = option_map_or (λ e. e.two) (said_by s.delays t k) (option_map_or (λ n. between (drawn n Delay k t) (gate_in g k).least_two (gate_in g k).greatest_two) s.seed (gate_in g k).least_two)
+  two_told k t = option_map_or (λ e. e.two) (said_by s.delays t k) (option_map_or (λ n. between (drawn_for n Delay k t) (gate_in g k).least_two (gate_in g k).greatest_two) s.seed (gate_in g k).least_two)
 
   -- what register q shows at moment t where it may show anything: as told last, else chosen by the seed, else 0
   abbrev pub show_told : (q t : ℕ) → Bool
-  show_told q t = option_map_or bit_said (said_by s.shows t q) (option_map_or (λ n. odd (drawn n Show q t)) s.seed false)
+  show_told q t = option_map_or bit_said (said_by s.shows t q) (option_map_or (λ n. odd (drawn_for n Show q t)) s.seed false)
 
   -- what register q takes at its clock of cycle n where it may take anything: as told, else chosen by the seed, else 0
   abbrev pub take_told : (n q : ℕ) → Bool
-  take_told n q = option_map_or bit_said (said_in s.takes n q) (option_map_or (λ k. odd (drawn k Take n q)) s.seed false)
+  take_told n q = option_map_or bit_said (said_in s.takes n q) (option_map_or (λ k. odd (drawn_for k Take n q)) s.seed false)
 
   -- when the clock of cycle n comes to register q, between two moments if it is not told: chosen by the seed, else the first of them
   abbrev pub clock_between : (n q low high : ℕ) → ℕ
-  clock_between n q low high = option_map_or (λ e. n * period ts + e.one) (said_in s.clocks n q) (option_map_or (λ k. between (drawn k Clock n q) low high) s.seed low)
+  clock_between n q low high = option_map_or (λ e. n * period ts + e.one) (said_in s.clocks n q) (option_map_or (λ k. between (drawn_for k Clock n q) low high) s.seed low)
 
   -- a clock comes within its bounds, and after the one before it
   unfoldable pub clock_told : (n q : ℕ) → ℕ

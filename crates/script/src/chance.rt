@@ -1,7 +1,7 @@
 // Choices made from a number.
 ghost use Rattle.std.specs.Prelude.{◌≡◌, ◌≤◌, max};
 ghost use Rattle.script.specs.Chance.{stirred, drawn_from, between, odd};
-ghost use Rattle.script.specs.Choices.{drawn};
+ghost use Rattle.script.specs.Choices.{drawn_for};
 
 // The kinds of choices, each with its number.
 #[derive(Clone, Copy, PartialEq, Debug)]
@@ -21,7 +21,7 @@ pub enum Choice {
 impl Choice {
     // The number that belongs to a seed, this kind of choice, and two numbers.
     pub fn draw(self, seed: u64, a: u64, b: u64) -> u64
-        ensures { result ≡ drawn seed self a b }
+        ensures { result ≡ drawn_for seed self a b }
     {
         draw(seed, self as u64, a, b)
     }

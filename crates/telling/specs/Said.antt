@@ -8,7 +8,7 @@ use Rattle.script.specs.declared.entry.Entry.{Entry}
 use Rattle.script.specs.declared.script.Script.{Script}
 use Rattle.script.specs.declared.chance.Choice.TheVariants.{Delay, Show}
 use Rattle.script.specs.Chance.{between, odd}
-use Rattle.script.specs.Choices.{drawn}
+use Rattle.script.specs.Choices.{drawn_for}
 use Rattle.script.specs.Entries.{entry, bit_said, last_of, about}
 use Rattle.script.specs.Told.{clock_told, take_told}
 use Rattle.step.specs.Lent.{clocks_at}
@@ -31,10 +31,10 @@ pub record KeptOn (es : List Entry) (t done : ℕ) (before : List (Option Entry)
 
 -- a gate's two delays by a seed, at moment t
 abbrev pub one_chosen : ℕ → Gate → (k t : ℕ) → ℕ
-one_chosen n g k t = between (drawn n Delay k t / 2 ^ 32) g.least_one g.greatest_one
+one_chosen n g k t = between (drawn_for n Delay k t / 2 ^ 32) g.least_one g.greatest_one
 
 abbrev pub two_chosen : ℕ → Gate → (k t : ℕ) → ℕ
-two_chosen n g k t = between (drawn n Delay k t) g.least_two g.greatest_two
+two_chosen n g k t = between (drawn_for n Delay k t) g.least_two g.greatest_two
 
 -- a gate's two delays by what is said of it, at moment t
 abbrev pub one_of : Option ℕ → (g : List ℕ) (k t : ℕ) → Option Entry → ℕ
@@ -45,7 +45,7 @@ two_of seed g k t said = option_map_or (λ e. e.two) said (option_map_or (λ n. 
 
 -- what a register shows by what is said of it, at moment t
 abbrev pub show_of : Option ℕ → (q t : ℕ) → Option Entry → Bool
-show_of seed q t said = option_map_or bit_said said (option_map_or (λ n. odd (drawn n Show q t)) seed false)
+show_of seed q t said = option_map_or bit_said said (option_map_or (λ n. odd (drawn_for n Show q t)) seed false)
 
 -- register q's clocks of cycle n and the next two, and what it takes in the next
 pub record ClocksTold (s : Script) (g r ts : List ℕ) (q n : ℕ) (told : Clocks) : Type 0 where
