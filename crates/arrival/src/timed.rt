@@ -1,6 +1,6 @@
 // A circuit whose arrival times are known.
 ghost use Rattle.std.specs.Prelude.{◌≡◌, ℕ, ◌<◌, ◌≤◌, length, slice_index};
-ghost use Rattle.circuit.specs.Lent.{signal_count};
+ghost use Rattle.circuit.specs.Checked.{of, signals_of};
 ghost use Rattle.arrival.specs.Lent.{time_of};
 ghost use Rattle.arrival.specs.declared.edge.Edge.TheVariants.{Late, Early};
 
@@ -13,7 +13,7 @@ pub struct Arrivals<'a, 'b> {
     pub circuit: Circuit<'a>,
     pub latest: &'b [u64],
     pub earliest: &'b [u64],
-    ghost room: { (signal_count circuit.gates.now circuit.registers.now ≤ length latest.now) × (signal_count circuit.gates.now circuit.registers.now ≤ length earliest.now) },
-    ghost late: { (k : ℕ) → k < signal_count circuit.gates.now circuit.registers.now → slice_index latest.now k ≡ time_of Late circuit.gates.now circuit.registers.now circuit.times.now k },
-    ghost early: { (k : ℕ) → k < signal_count circuit.gates.now circuit.registers.now → slice_index earliest.now k ≡ time_of Early circuit.gates.now circuit.registers.now circuit.times.now k },
+    ghost room: { (signals_of circuit ≤ length latest.now) × (signals_of circuit ≤ length earliest.now) },
+    ghost late: { (k : ℕ) → k < signals_of circuit → slice_index latest.now k ≡ of circuit (time_of Late) k },
+    ghost early: { (k : ℕ) → k < signals_of circuit → slice_index earliest.now k ≡ of circuit (time_of Early) k },
 }

@@ -1,14 +1,14 @@
 // Whether three lists of numbers are a circuit, or the first reason why they are not.
 ghost use Rattle.std.specs.Prelude.{◌≡◌, ℕ, ◌+◌, ◌*◌, ◌/◌, ◌%◌, ◌<◌, ◌≤◌, length, MatchResult, slice_index};
 ghost use Rattle.circuit.specs.Checked.{lent};
-ghost use Rattle.circuit.specs.Lent.{gate_count, register_count};
+ghost use Rattle.circuit.specs.Lent.{gate_count, register_count, signal_count};
 ghost use Rattle.circuit.specs.Whole.{Whole, Shaped, FewGates, SomeRegisters, Placed, Ranged, Tied};
 ghost use Rattle.circuit.specs.Refused.{AllOrFirst, FirstRefusal, MetUpTo, RefusalsAreExact};
 
-use crate::gate::{Gate, gates};
+use crate::gate::Gate;
 use crate::numbers::Numbers;
 use crate::refusal::Refusal;
-use crate::register::{Register, registers};
+use crate::register::Register;
 
 pub const MOST_REGISTERS: usize = 1_024;
 
@@ -33,11 +33,12 @@ fn first_large(xs: &[u32]) -> Option<usize>
 }
 
 // The first gate with an input that is not below it, or a table above 15.
-fn first_misplaced(numbers: &[u32], n: usize) -> Option<usize>
-    requires { n ≤ 1024 }
-    ensures { AllOrFirst (Placed n numbers.now) (gate_count numbers.now) result }
+fn first_misplaced(numbers: Numbers<'_>) -> Option<usize>
+    requires { register_count numbers.registers.now ≤ 1024 }
+    ensures { AllOrFirst (Placed (register_count numbers.entry.registers.now) numbers.entry.gates.now) (gate_count numbers.entry.gates.now) result }
 {
-    gates(numbers).iter().enumerate().position(|(k, gate)| {
+    let n = numbers.registers().len();
+    numbers.gates().iter().enumerate().position(|(k, gate)| {
         let gate = Gate::from(*gate);
         let below = n + k;
         gate.one as usize >= below || gate.two as usize >= below || gate.table > LAST_TABLE
@@ -45,20 +46,21 @@ fn first_misplaced(numbers: &[u32], n: usize) -> Option<usize>
 }
 
 // The first gate with a least delay above its greatest.
-fn first_unranged(numbers: &[u32]) -> Option<usize>
-    ensures { AllOrFirst (Ranged numbers.now) (gate_count numbers.now) result }
+fn first_unranged(numbers: Numbers<'_>) -> Option<usize>
+    ensures { AllOrFirst (Ranged numbers.entry.gates.now) (gate_count numbers.entry.gates.now) result }
 {
-    gates(numbers).iter().position(|gate| {
+    numbers.gates().iter().position(|gate| {
         let gate = Gate::from(*gate);
         gate.least_one > gate.greatest_one || gate.least_two > gate.greatest_two
     })
 }
 
-// The first register that takes none of `n` signals, or whose early time is above its late one.
-fn first_untied(numbers: &[u32], n: usize) -> Option<usize>
-    ensures { AllOrFirst (Tied n numbers.now) (register_count numbers.now) result }
+// The first register that takes no signal of the circuit, or whose early time is above its late one.
+fn first_untied(numbers: Numbers<'_>) -> Option<usize>
+    ensures { AllOrFirst (Tied (signal_count numbers.entry.gates.now numbers.entry.registers.now) numbers.entry.registers.now) (register_count numbers.entry.registers.now) result }
 {
-    registers(numbers).iter().position(|register| {
+    let n = numbers.registers().len() + numbers.gates().len();
+    numbers.registers().iter().position(|register| {
         let register = Register::from(*register);
         register.signal as usize >= n || register.early > register.late
     })
@@ -82,11 +84,11 @@ fn look_at_counts(numbers: Numbers<'_>) -> Result<(), Refusal>
     if times.len() != TIME_NUMBERS {
         return Err(Refusal::TimeNumbers);
     }
-    let n = registers.len() / REGISTER_NUMBERS;
+    let n = numbers.registers().len();
     if n < 1 || n > MOST_REGISTERS {
         return Err(Refusal::RegisterCount);
     }
-    if gates.len() / GATE_NUMBERS > MOST_GATES {
+    if numbers.gates().len() > MOST_GATES {
         return Err(Refusal::GateCount);
     }
     Ok(())
@@ -119,11 +121,10 @@ fn look_at_gates(numbers: Numbers<'_>) -> Result<(), Refusal>
     requires { lent numbers MetUpTo 3 }
     ensures { MatchResult result (λ _. lent numbers.entry MetUpTo 5) (λ e. lent numbers.entry FirstRefusal e) }
 {
-    let n = numbers.registers().len();
-    if let Some(k) = first_misplaced(numbers.gates, n) {
+    if let Some(k) = first_misplaced(numbers) {
         return Err(Refusal::BadGate(k));
     }
-    if let Some(k) = first_unranged(numbers.gates) {
+    if let Some(k) = first_unranged(numbers) {
         return Err(Refusal::BadDelay(k));
     }
     Ok(())
@@ -134,8 +135,7 @@ fn look_at_registers(numbers: Numbers<'_>) -> Result<(), Refusal>
     requires { lent numbers MetUpTo 5 }
     ensures { MatchResult result (λ _. lent numbers.entry MetUpTo 7) (λ e. lent numbers.entry FirstRefusal e) }
 {
-    let signals = numbers.registers().len() + numbers.gates().len();
-    if let Some(r) = first_untied(numbers.registers, signals) {
+    if let Some(r) = first_untied(numbers) {
         return Err(Refusal::BadRegister(r));
     }
     if numbers.times[1] > numbers.times[2] {

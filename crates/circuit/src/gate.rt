@@ -1,8 +1,6 @@
-// Gates, and how they stand among the numbers that are lent.
-ghost use Rattle.std.specs.Prelude.{◌≡◌, ℕ, ◌<◌, [], length, slice_index_or};
-ghost use Rattle.circuit.specs.Lent.{gate_count, gate_in, gate_of};
-
-use crate::rows::rows;
+// Gates by their numbers.
+ghost use Rattle.std.specs.Prelude.{◌≡◌};
+ghost use Rattle.circuit.specs.Lent.{gate_of};
 
 // A gate: the signals at its two inputs, its table, and for each input a least and a greatest delay.
 #[derive(Clone, Copy, PartialEq, Debug)]
@@ -31,12 +29,4 @@ impl From<[u32; 7]> for Gate {
             greatest_two: d,
         }
     }
-}
-
-// The numbers of gates, seven by seven.
-pub(crate) fn gates(numbers: &[u32]) -> &[[u32; 7]]
-    ensures count { length result.now ≡ gate_count numbers.now }
-    ensures each { (k : ℕ) → k < gate_count numbers.now → gate_of (slice_index_or result.now k []) ≡ gate_in numbers.now k }
-{
-    rows(numbers)
 }

@@ -10,17 +10,13 @@ impl Refusal {
         ensures { result ≡ number_of self }
     {
         match self {
-            Refusal::GateNumbers => 1,
-            Refusal::RegisterNumbers => 1,
-            Refusal::TimeNumbers => 1,
-            Refusal::RegisterCount => 2,
-            Refusal::GateCount => 2,
+            Refusal::GateNumbers | Refusal::RegisterNumbers | Refusal::TimeNumbers => 1,
+            Refusal::RegisterCount | Refusal::GateCount => 2,
             Refusal::TooLarge(_) => 3,
             Refusal::BadGate(_) => 4,
             Refusal::BadDelay(_) => 5,
-            Refusal::BadRegister(_) => 6,
+            Refusal::BadRegister(_) | Refusal::NoSignal(_) => 6,
             Refusal::BadOutput => 7,
-            Refusal::NoSignal(_) => 6,
             Refusal::NoRoom(_) => 8,
         }
     }

@@ -6,7 +6,7 @@ ghost use Rattle.circuit.specs.Lent.{gate_count, gate_in, gate_of, register_coun
 use crate::checks::look;
 use crate::circuit::Circuit;
 use crate::refusal::Refusal;
-use crate::{gate, register};
+use crate::rows::rows;
 
 // Seven numbers for each gate, three for each register, and five for all, whatever they are.
 #[derive(Clone, Copy)]
@@ -22,7 +22,7 @@ impl<'a> Numbers<'a> {
         ensures count { length result.now ≡ gate_count self.entry.gates.now }
         ensures each { (k : ℕ) → k < gate_count self.entry.gates.now → gate_of (slice_index_or result.now k []) ≡ gate_in self.entry.gates.now k }
     {
-        gate::gates(self.gates)
+        rows(self.gates)
     }
 
     // The numbers of registers, three by three; fewer than three at the end are of none.
@@ -30,7 +30,7 @@ impl<'a> Numbers<'a> {
         ensures count { length result.now ≡ register_count self.entry.registers.now }
         ensures each { (r : ℕ) → r < register_count self.entry.registers.now → register_of (slice_index_or result.now r []) ≡ register_in self.entry.registers.now r }
     {
-        register::registers(self.registers)
+        rows(self.registers)
     }
 }
 

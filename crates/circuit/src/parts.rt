@@ -1,11 +1,11 @@
 // What a circuit has: gates, registers, signals, times.
-ghost use Rattle.std.specs.Prelude.{◌≡◌, ℕ, ◌<◌, [], length, slice_index_or};
-ghost use Rattle.circuit.specs.Checked.{gates_of, registers_of, signals_of};
+ghost use Rattle.std.specs.Prelude.{◌≡◌, ℕ, ◌<◌, [], length, Ok, slice_index_or};
+ghost use Rattle.circuit.specs.Checked.{gates_of, registers_of, signals_of, IsChecked};
 ghost use Rattle.circuit.specs.Lent.{gate_in, gate_of, register_in, register_of, period, output_early, output_late, setup, hold};
 ghost use Rattle.circuit.specs.Whole.{Whole};
 
 use crate::circuit::Circuit;
-use crate::{gate, register};
+use crate::numbers::Numbers;
 
 impl<'a> Circuit<'a> {
     // The circuit of numbers that were looked at.
@@ -20,12 +20,23 @@ impl<'a> Circuit<'a> {
         }
     }
 
+    // Its numbers, as they were lent.
+    pub fn numbers(self) -> Numbers<'a>
+        ensures { IsChecked result (Ok self.entry) }
+    {
+        Numbers {
+            gates: self.gates,
+            registers: self.registers,
+            times: self.times,
+        }
+    }
+
     // The numbers of its gates, seven by seven.
     pub fn gates(self) -> &'a [[u32; 7]]
         ensures count { length result.now ≡ gates_of self.entry }
         ensures each { (k : ℕ) → k < gates_of self.entry → gate_of (slice_index_or result.now k []) ≡ gate_in self.entry.gates.now k }
     {
-        gate::gates(self.gates)
+        self.numbers().gates()
     }
 
     // The numbers of its registers, three by three.
@@ -33,19 +44,19 @@ impl<'a> Circuit<'a> {
         ensures count { length result.now ≡ registers_of self.entry }
         ensures each { (r : ℕ) → r < registers_of self.entry → register_of (slice_index_or result.now r []) ≡ register_in self.entry.registers.now r }
     {
-        register::registers(self.registers)
+        self.numbers().registers()
     }
 
     pub fn gate_count(self) -> usize
         ensures { result ≡ gates_of self.entry }
     {
-        self.gates.len() / 7
+        self.gates().len()
     }
 
     pub fn register_count(self) -> usize
         ensures { result ≡ registers_of self.entry }
     {
-        self.registers.len() / 3
+        self.registers().len()
     }
 
     // How many signals it has: its registers' outputs, and then its gates'.
@@ -61,26 +72,28 @@ impl<'a> Circuit<'a> {
         self.times[0]
     }
 
-    // The earliest and the latest that a register's output changes after its clock.
+    // The earliest that a register's output changes after its clock.
     pub fn output_early(self) -> u32
         ensures { result ≡ output_early self.entry.times.now }
     {
         self.times[1]
     }
 
+    // The latest that it does.
     pub fn output_late(self) -> u32
         ensures { result ≡ output_late self.entry.times.now }
     {
         self.times[2]
     }
 
-    // How long before its clock, and after it, a register needs its input to keep still.
+    // How long before its clock a register needs its input to keep still.
     pub fn setup(self) -> u32
         ensures { result ≡ setup self.entry.times.now }
     {
         self.times[3]
     }
 
+    // How long after its clock it does.
     pub fn hold(self) -> u32
         ensures { result ≡ hold self.entry.times.now }
     {

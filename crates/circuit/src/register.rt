@@ -1,8 +1,6 @@
-// Registers, and how they stand among the numbers that are lent.
-ghost use Rattle.std.specs.Prelude.{◌≡◌, ℕ, ◌<◌, [], length, slice_index_or};
-ghost use Rattle.circuit.specs.Lent.{register_count, register_in, register_of};
-
-use crate::rows::rows;
+// Registers by their numbers.
+ghost use Rattle.std.specs.Prelude.{◌≡◌};
+ghost use Rattle.circuit.specs.Lent.{register_of};
 
 // A register: the signal that it takes, and the earliest and the latest that its clock comes in a cycle.
 #[derive(Clone, Copy, PartialEq, Debug)]
@@ -23,12 +21,4 @@ impl From<[u32; 3]> for Register {
             late,
         }
     }
-}
-
-// The numbers of registers, three by three.
-pub(crate) fn registers(numbers: &[u32]) -> &[[u32; 3]]
-    ensures count { length result.now ≡ register_count numbers.now }
-    ensures each { (r : ℕ) → r < register_count numbers.now → register_of (slice_index_or result.now r []) ≡ register_in numbers.now r }
-{
-    rows(numbers)
 }

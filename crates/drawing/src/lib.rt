@@ -23,16 +23,14 @@ fn output_of(gate: Gate, signals: &[bool]) -> bool
     table::output(gate.table, one, two)
 }
 
-// What every signal is, from the bits of `n` sources with which `signals` begins: each turn takes the first gate, and
-// hands on the part from the next gate on.
-fn settle_gates(gates: &[u32], n: usize, signals: &mut [bool])
-    requires whole { length gates.now % 7 ≡ 0 }
-    requires sound { Sound (circuit_in n gates.now) }
-    requires room { n + gate_count gates.now ≤ length signals.old }
-    ensures { Filled false (n + gate_count gates.now) (ideal (circuit_in n gates.now) (bit_at signals.old)) signals.old signals.new }
+// What every signal is, from the registers' bits with which `signals` begins: each turn takes the first gate, and hands on
+// the part from the next gate on.
+fn settle_gates(circuit: Circuit<'_>, signals: &mut [bool])
+    requires { signals_of circuit ≤ length signals.old }
+    ensures { Filled false (signals_of circuit.entry) (ideal (drawing_of circuit.entry) (bit_at signals.old)) signals.old signals.new }
 {
-    let mut rest = gates;
-    let mut at = n;
+    let mut rest = circuit.gates;
+    let mut at = circuit.register_count();
     while let Some(gate) = rest.first_chunk() {
         signals[at] = output_of(Gate::from(*gate), signals);
         at += 1;
@@ -51,7 +49,7 @@ pub fn settle(circuit: Circuit<'_>, signals: &mut [bool]) -> Result<(), Refusal>
     if signals.len() < all {
         return Err(Refusal::NoRoom(all));
     }
-    settle_gates(circuit.gates, circuit.register_count(), signals);
+    settle_gates(circuit, signals);
     Ok(())
 }
 
@@ -82,9 +80,8 @@ fn one_cycle(circuit: Circuit<'_>, bits: &mut [bool], signals: &mut [bool])
     ensures settled { Filled false (signals_of circuit.entry) (ideal (drawing_of circuit.entry) (bit_at bits.old)) signals.old signals.new }
     ensures taken { Filled false (registers_of circuit.entry) (λ r. ideal (drawing_of circuit.entry) (bit_at bits.old) (takes circuit.entry.registers.now r)) bits.old bits.new }
 {
-    let n = circuit.register_count();
-    show(bits, n, signals);
-    settle_gates(circuit.gates, n, signals);
+    show(bits, circuit.register_count(), signals);
+    settle_gates(circuit, signals);
     take(circuit, signals, bits);
 }
 

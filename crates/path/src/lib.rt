@@ -11,8 +11,8 @@ ghost use Rattle.path.specs.Path.{input, by_second, told_path, written, BeginsWi
 use arrival::{Arrivals, Edge};
 use circuit::{Gate, Refusal};
 
-// The input by which a gate's time is reached, the first if it is by both, and the signal there. A path is written with 0
-// or 1 for the input, so it is a flag.
+// The input by which a gate's time is reached, the first if it is by both, and the signal there. Which input it is, is the
+// bit that `delay` and `by_second` take.
 #[derive(Clone, Copy)]
 struct Step {
     second: bool,

@@ -26,8 +26,7 @@ struct Sums {
     limit: u64,
 }
 
-// The sums of the first kind are latest time and setup, period and early time; of the second earliest time, late time and
-// hold.
+// Its late sums are latest time and setup, period and early time; its early ones earliest time, late time and hold.
 fn sums_at(a: Arrivals<'_, '_>, edge: Edge, r: usize) -> Sums
     requires { r < registers_of a.circuit }
     ensures signal { result.signal ≡ takes a.entry.circuit.registers.now r }
@@ -70,7 +69,7 @@ fn first_missed(a: Arrivals<'_, '_>, edge: Edge) -> Option<usize>
 {
     let n = a.circuit.register_count();
     let mut r = 0;
-    // Left with its value, as is wanted of this search.
+    // A loop left with its value, one of the forms that are named in docs/DECISIONS.md.
     loop {
         if r == n {
             break None;
