@@ -1,7 +1,7 @@
 -- What the parts of a teller tell is what the script tells.
 use Rattle.std.proofs.Common.{◌≡◌, ℕ, suc, ◌<◌, ◌≤◌, Bool, false, List, length, get_or, None, vec_items, Option, sym, ap, ◌∙◌, arith}
 use Rattle.std.proofs.lemmas.Bool.{le-leb, lt-leb, and_left}
-use Rattle.circuit.specs.Lent.{gate_count, register_count}
+use Rattle.circuit.specs.Lent.{gate_count, register_count, gate_in}
 use Rattle.circuit.proofs.LentLaws.{gates_in_length}
 use Rattle.promise.specs.Machine.{machine_in}
 use Rattle.step.specs.Lent.{TellsGates, TellsRegister, clocks_at, delays_at}
@@ -33,8 +33,8 @@ kept_due es t k y knows h = kept_last es t y.done _ k (vec_items y.said) knows.d
 module _ (s : Script) (g r ts : List ℕ) (t : ℕ) where
   -- the delays of all gates are told by what is kept, and what all registers show
   pub record DelaysTold (y : Part Delays) : Type 0 where
-    pub one : (k : ℕ) → k < gate_count g → (delays_at (vec_items y.values) k).one ≡ one_of s.seed g k t (get_or (vec_items y.said) k None)
-    pub two : (k : ℕ) → k < gate_count g → (delays_at (vec_items y.values) k).two ≡ two_of s.seed g k t (get_or (vec_items y.said) k None)
+    pub one : (k : ℕ) → k < gate_count g → (delays_at (vec_items y.values) k).one ≡ one_of s.seed (gate_in g k) k t (get_or (vec_items y.said) k None)
+    pub two : (k : ℕ) → k < gate_count g → (delays_at (vec_items y.values) k).two ≡ two_of s.seed (gate_in g k) k t (get_or (vec_items y.said) k None)
 
   abbrev pub ShowsTold : Part Bool → Type 0
   ShowsTold y = (q : ℕ) → q < register_count r → get_or (vec_items y.values) q false ≡ show_of s.seed q t (get_or (vec_items y.said) q None)
@@ -48,8 +48,8 @@ module _ (s : Script) (g r ts : List ℕ) (t : ℕ) where
         let at : (i : ℕ) → i < gate_count g → get_or (vec_items y'.delays.said) i None ≡ said_by s.delays t i =
         λ i h. kept_due s.delays t i y'.delays (d.knows k.delays_known) (omega (arith, d.places_same, k.sized.delays_sized)) in
         record {
-          one = λ i h. let l : i < gate_count g = omega (arith, gates_in_length g) in dt.one i l ∙ ap (one_of s.seed g i t) (at i l);
-          two = λ i h. let l : i < gate_count g = omega (arith, gates_in_length g) in dt.two i l ∙ ap (two_of s.seed g i t) (at i l);
+          one = λ i h. let l : i < gate_count g = omega (arith, gates_in_length g) in dt.one i l ∙ ap (one_of s.seed (gate_in g i) i t) (at i l);
+          two = λ i h. let l : i < gate_count g = omega (arith, gates_in_length g) in dt.two i l ∙ ap (two_of s.seed (gate_in g i) i t) (at i l);
         }
 
     clocks_now : Knows s g r ts t y → ComesTo s g r ts cycles (vec_items y.clocks) → (q : ℕ) → q < register_count r → ClocksTold s g r ts q (get_or cycles q 0) (clocks_at (vec_items y'.clocks) q)

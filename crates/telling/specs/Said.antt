@@ -2,7 +2,6 @@
 use Rattle.std.specs.Prelude.{◌≡◌, ℕ, suc, ◌/◌, ◌^◌, ◌<◌, ◌≤◌, Bool, false, ◌⊎◌, List, length, None, Option, slice_index, slice_index_or}
 use Rattle.std.specs.Option.{option_map_or}
 use Rattle.circuit.specs.declared.gate.Gate.{Gate}
-use Rattle.circuit.specs.Lent.{gate_in}
 use Rattle.clocks.specs.Benches.{SmallClock}
 use Rattle.script.specs.declared.entry.Entry.{Entry}
 use Rattle.script.specs.declared.script.Script.{Script}
@@ -37,11 +36,11 @@ abbrev pub two_chosen : ℕ → Gate → (k t : ℕ) → ℕ
 two_chosen n g k t = between (drawn_for n Delay k t) g.least_two g.greatest_two
 
 -- a gate's two delays by what is said of it, at moment t
-abbrev pub one_of : Option ℕ → (g : List ℕ) (k t : ℕ) → Option Entry → ℕ
-one_of seed g k t said = option_map_or (λ e. e.one) said (option_map_or (λ n. one_chosen n (gate_in g k) k t) seed (gate_in g k).least_one)
+abbrev pub one_of : Option ℕ → Gate → (k t : ℕ) → Option Entry → ℕ
+one_of seed g k t said = option_map_or (λ e. e.one) said (option_map_or (λ n. one_chosen n g k t) seed g.least_one)
 
-abbrev pub two_of : Option ℕ → (g : List ℕ) (k t : ℕ) → Option Entry → ℕ
-two_of seed g k t said = option_map_or (λ e. e.two) said (option_map_or (λ n. two_chosen n (gate_in g k) k t) seed (gate_in g k).least_two)
+abbrev pub two_of : Option ℕ → Gate → (k t : ℕ) → Option Entry → ℕ
+two_of seed g k t said = option_map_or (λ e. e.two) said (option_map_or (λ n. two_chosen n g k t) seed g.least_two)
 
 -- what a register shows by what is said of it, at moment t
 abbrev pub show_of : Option ℕ → (q t : ℕ) → Option Entry → Bool

@@ -35,22 +35,22 @@ impl<V: Copy> Part<V> {
         self.values.len().min(self.said.len())
     }
 
-    // What is told of the first `n` gates or registers at moment `t`: the value of each by the last statement about it.
-    pub(crate) fn tell<F: Fn(usize, Option<Entry>) -> V>(
+    // What is told of some gates or registers at moment `t`: the value of each by the last statement about it.
+    pub(crate) fn tell<T: Copy, F: Fn(usize, T, Option<Entry>) -> V>(
         &mut self,
-        n: usize,
+        items: &[T],
         entries: &[Entry],
         t: u64,
         value: F,
     )
         requires callable { F.IsAlwaysCallable value }
         requires ordered { Ordered entries.now }
-        requires places { n ≤ places self.old }
+        requires places { length items.now ≤ places self.old }
         ensures on { PartOn entries.now t self.old self.new }
-        ensures told { (k : ℕ) → k < n → HoldsAt (F.post value k (slice_index_or self.new.said.items k None)) self.new.values.items k }
+        ensures told { (k : ℕ) → k < length items.now → HoldsAt (λ v. HoldsAt (λ x. F.post value k x (slice_index_or self.new.said.items k None) v) items.now k) self.new.values.items k }
     {
         self.done = keep_said(entries, t, self.done, &mut self.said);
-        fill(&self.said[..n], &mut self.values, value);
+        fill(items, &self.said, &mut self.values, value);
     }
 }
 
@@ -71,16 +71,18 @@ fn keep_said(entries: &[Entry], t: u64, done: usize, said: &mut [Option<Entry>])
 }
 
 // The value of each gate or register by the last statement about it.
-fn fill<V: Copy, F: Fn(usize, Option<Entry>) -> V>(
+fn fill<T: Copy, V: Copy, F: Fn(usize, T, Option<Entry>) -> V>(
+    items: &[T],
     said: &[Option<Entry>],
     values: &mut [V],
     value: F,
 )
     requires callable { F.IsAlwaysCallable value }
-    requires room { length said.now ≤ length values.old }
-    ensures { (k : ℕ) → k < length said.now → HoldsAt (F.post value k (slice_index_or said.now k None)) values.new k }
+    requires said { length items.now ≤ length said.now }
+    requires room { length items.now ≤ length values.old }
+    ensures { (k : ℕ) → k < length items.now → HoldsAt (λ v. HoldsAt (λ x. F.post value k x (slice_index_or said.now k None) v) items.now k) values.new k }
 {
-    for (k, said) in said.iter().enumerate() {
-        values[k] = value(k, *said);
+    for (k, item) in items.iter().enumerate() {
+        values[k] = value(k, *item, said[k]);
     }
 }

@@ -1,11 +1,9 @@
 // What is told of a gate or register by what is said of it.
 ghost use Rattle.std.specs.Prelude.{◌≡◌};
-ghost use Rattle.circuit.specs.Checked.{of};
-ghost use Rattle.circuit.specs.Lent.{gate_in};
+ghost use Rattle.circuit.specs.Lent.{gate_of};
 ghost use Rattle.telling.specs.Said.{one_chosen, two_chosen, one_of, two_of, show_of};
 
 use circuit::Gate;
-use clocks::Bench;
 use script::{Choice, Entry, chance};
 use step::Delays;
 
@@ -27,26 +25,23 @@ fn chosen(gate: Gate, seed: u64, k: usize, t: u64) -> Delays
     }
 }
 
-// Gate `k`, or one of zeros where there is none. (One function for this and for registers, two lines each, would need a
-// trait of rows with its law.)
-fn gate_of(bench: Bench<'_>, k: usize) -> Gate
-    ensures { result ≡ gate_in bench.entry.circuit.gates.now k }
+// The delays of gate `k`, which has these numbers, at moment `t`: as said, else by the seed within bounds, else the least.
+pub(crate) fn delays_of(
+    numbers: [u32; 7],
+    seed: Option<u64>,
+    k: usize,
+    t: u64,
+    said: Option<Entry>,
+) -> Delays
+    ensures one { result.one ≡ one_of seed (gate_of numbers) k t said }
+    ensures two { result.two ≡ two_of seed (gate_of numbers) k t said }
 {
-    let numbers = bench.circuit.gates().get(k).copied();
-    Gate::from(numbers.unwrap_or([0; 7]))
-}
-
-// The delays of gate `k` at moment `t`: as said, else by the seed within bounds, else the least.
-pub(crate) fn delays_of(bench: Bench<'_>, k: usize, t: u64, said: Option<Entry>) -> Delays
-    ensures one { result.one ≡ one_of bench.entry.script.now.seed bench.entry.circuit.gates.now k t said }
-    ensures two { result.two ≡ two_of bench.entry.script.now.seed bench.entry.circuit.gates.now k t said }
-{
-    let gate = gate_of(bench, k);
+    let gate = Gate::from(numbers);
     let said = said.map(|e| Delays {
         one: e.one,
         two: e.two,
     });
-    let chosen = bench.script.seed.map(|seed| chosen(gate, seed, k, t));
+    let chosen = seed.map(|seed| chosen(gate, seed, k, t));
     said.or(chosen).unwrap_or(Delays {
         one: gate.least_one,
         two: gate.least_two,
@@ -54,13 +49,10 @@ pub(crate) fn delays_of(bench: Bench<'_>, k: usize, t: u64, said: Option<Entry>)
 }
 
 // What register `r` shows at moment `t` where it may show anything: as said, else by the seed, else 0.
-pub(crate) fn show_of(bench: Bench<'_>, r: usize, t: u64, said: Option<Entry>) -> bool
-    ensures { result ≡ show_of bench.entry.script.now.seed r t said }
+pub(crate) fn show_of(seed: Option<u64>, r: usize, t: u64, said: Option<Entry>) -> bool
+    ensures { result ≡ show_of seed r t said }
 {
     let said = said.map(Entry::bit);
-    let chosen = bench
-        .script
-        .seed
-        .map(|seed| chance::odd(Choice::Show.draw(seed, r as u64, t)));
+    let chosen = seed.map(|seed| chance::odd(Choice::Show.draw(seed, r as u64, t)));
     said.or(chosen).unwrap_or(false)
 }

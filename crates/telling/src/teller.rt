@@ -1,6 +1,8 @@
 // Who tells what, moment by moment.
 ghost use Rattle.std.specs.Prelude.{◌≡◌, IfOk, MatchResult};
 ghost use Rattle.circuit.specs.Checked.{of};
+ghost use Rattle.circuit.specs.Lent.{gate_of};
+ghost use Rattle.telling.specs.Said.{one_of, two_of, show_of};
 ghost use Rattle.telling.specs.Knows.{Begins, Suits, Lacks, TellAnswer};
 
 use crate::clocks_told::{begin, follow};
@@ -8,6 +10,7 @@ use crate::part::Part;
 use crate::said::{delays_of, show_of};
 use circuit::{Circuit, Refusal};
 use clocks::Bench;
+use script::Entry;
 use std::alloc::{AllocError, Global};
 use step::{Clocks, Delays};
 
@@ -48,20 +51,33 @@ impl Teller {
         Ok(())
     }
 
-    // What is told for moment `t` to registers that stand in these cycles. A teller with too few places for the circuit, or
-    // too few cycles, are refused, with nothing done.
+    // What is told for moment `t` to registers that stand in these cycles. Too few places for the circuit, or too few
+    // cycles, are refused, with nothing done.
     pub fn tell(&mut self, bench: Bench<'_>, t: u64, cycles: &[u64]) -> Result<(), Refusal>
         ensures { TellAnswer bench.entry t cycles.now self.old self.new result }
     {
         self.suits(bench.circuit, cycles)?;
-        let gates = bench.circuit.gate_count();
-        let registers = bench.circuit.register_count();
-        let delays = bench.script.delays.as_slice();
-        self.delays
-            .tell(gates, delays, t, |k, said| delays_of(bench, k, t, said));
-        let shows = bench.script.shows.as_slice();
-        self.shows
-            .tell(registers, shows, t, |r, said| show_of(bench, r, t, said));
+        let Bench { circuit, script } = bench;
+        let seed = script.seed;
+        let delays = script.delays.as_slice();
+        self.delays.tell(
+            circuit.gates(),
+            delays,
+            t,
+            |k: usize, gate: [u32; 7], said: Option<Entry>|
+                ensures one { result.one ≡ one_of seed (gate_of gate) k t said }
+                ensures two { result.two ≡ two_of seed (gate_of gate) k t said }
+            { delays_of(gate, seed, k, t, said) },
+        );
+        let shows = script.shows.as_slice();
+        self.shows.tell(
+            circuit.registers(),
+            shows,
+            t,
+            |r: usize, _register: [u32; 3], said: Option<Entry>|
+                ensures { result ≡ show_of seed r t said }
+            { show_of(seed, r, t, said) },
+        );
         follow(bench, cycles, &mut self.clocks);
         Ok(())
     }

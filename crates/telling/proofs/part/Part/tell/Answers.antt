@@ -1,5 +1,5 @@
-use Rattle.std.proofs.Common.{◌<◌, None, length, take, ◌∙◌, arith}
-use Rattle.std.proofs.lemmas.List.{with_items_is, get_or-take, length-take-le}
+use Rattle.std.proofs.Common.{◌∙◌, arith}
+use Rattle.std.proofs.lemmas.List.{with_items_is}
 use Rattle.telling.proofs.Keeping.{part_on}
 use Rattle.telling.proofs.part.Part.tell.Goals as goal
 
@@ -11,10 +11,8 @@ returns-clause-on g c =
     part_on (rw values (omega arith)) (rw said (omega arith)) (rw said (rw c.deref_mut.ensures.value at c.keep_said-self.ensures))
 
 pub returns-clause-told : goal.returns-clause-told
-returns-clause-told g c k h d =
+returns-clause-told g c k h v x =
     let y = c.args.self.now in
-    let n = c.args.n in
     let values = with_items_is y.values c.fill.new.values (omega arith) in
     let said = with_items_is y.said c.keep_said-self.new.said (omega arith) in
-    let within : k < length (take n c.deref.result.now) = omega (arith, length-take-le n c.deref.result.now (omega arith)) in
-    rw (values, said) (rw (get_or-take n c.deref.result.now k None h, c.deref.ensures.value ∙ said) at (c.fill.ensures k within d))
+    rw (values, said) (rw (c.deref.ensures.value ∙ said) at (c.fill.ensures k h v x))
