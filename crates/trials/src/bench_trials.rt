@@ -1,6 +1,6 @@
 // Circuits that are gone through time, told and by a seed.
-use crate::arrival_trials::{COUNTER, INVERTER, ONE, TWO};
-use circuit::{Circuit, Numbers, Refusal};
+use crate::arrival_trials::{COUNTER, INVERTER, ONE, TWO, checked};
+use circuit::{Circuit, Refusal};
 use clocks::Bench;
 use fitting::Unfit;
 use script::{Entry, Kind, Script};
@@ -12,11 +12,7 @@ use trial::{Stop, Trial, prepare};
 #[test]
 fn counter_by_a_seed(rt: HostRuntime) -> Result<(), Fail> {
     let times = [18, 2, 4, 3, 1];
-    let circuit = Circuit::try_from(Numbers {
-        gates: &COUNTER,
-        registers: &TWO,
-        times: &times,
-    })?;
+    let circuit = checked(&COUNTER, &TWO, &times)?;
     let mut script = Script::new(rt.alloc());
     script.cycles = 9;
     script.seed = Some(7);
@@ -62,11 +58,7 @@ fn slow(heap: Global) -> Result<Script, AllocError> {
 
 // The inverter with these times.
 fn inverter(times: &[u32]) -> Result<Circuit<'_>, Refusal> {
-    Circuit::try_from(Numbers {
-        gates: &INVERTER,
-        registers: &ONE,
-        times,
-    })
+    checked(&INVERTER, &ONE, times)
 }
 
 // The inverter's bit after two cycles with this period.
