@@ -5,7 +5,7 @@ ghost use Rattle.std.specs.Prelude.{◌≡◌, IfOk, None};
 ghost use Rattle.text.specs.Meaning.{drafted};
 ghost use Rattle.answer.specs.Said.{PassedIf};
 
-use circuit::Refusal;
+use circuit::{MOST_GATES, Refusal};
 use reason::{Detail, Reason};
 use signoff::Verdict;
 use std::alloc::Global;
@@ -16,13 +16,15 @@ use wording::{Missed, Title, TurnedAway};
 
 mod wording;
 
-// As many numbers as a path can have: a register, and two for each gate. They are lent, so that a path needs no memory.
-const LONGEST_PATH: usize = 32_769;
+// As many numbers as a path can have: a register, and two for each gate. The array for them is on the stack, and is lent
+// to `signoff::pass`.
+const LONGEST_PATH: usize = 1 + 2 * MOST_GATES;
 
 // The line that is said of a circuit, and whether it is passed.
 #[derive(Drop)]
 pub struct Said {
     pub line: String,
+    // There is a line either way, so a Result would hold it in both cases.
     pub passed: bool,
 }
 
@@ -100,7 +102,8 @@ pub fn answer(heap: Global, draft: &Draft, text: &[u8], before: usize) -> Result
     write!(line, "{}", Title(&draft.name))?;
     if let Some(miscount) = draft.miscount {
         let number = miscount.line.saturating_add(before);
-        writeln!(line, "{} (line {number})", TurnedAway::miscounted(miscount))?;
+        let refused = TurnedAway::miscounted(miscount.part);
+        writeln!(line, "{refused} (line {number})")?;
         return Ok(Said {
             line,
             passed: false,

@@ -3,9 +3,9 @@ use circuit::Refusal;
 use signoff::Miss;
 use std::fmt;
 use std::fmt::Write;
-use text::Miscount;
+use text::Part;
 
-// A name and a colon, where there is a name.
+// A name and a colon, where there is a name. Its bytes are ASCII, so from_utf8 would add a case that cannot be.
 #[derive(Clone, Copy)]
 pub(crate) struct Title<'a>(pub(crate) &'a [u8]);
 
@@ -29,15 +29,17 @@ pub(crate) struct TurnedAway<D> {
 }
 
 impl TurnedAway<&'static str> {
-    // For a line that has another count of numbers than it should.
-    pub(crate) fn miscounted(miscount: Miscount) -> Self {
-        let refusal = miscount.refusal;
-        let why = match refusal {
-            Refusal::GateNumbers => "a gate has 7 numbers",
-            Refusal::RegisterNumbers => "a register has 3 numbers",
-            _ => "there are 5 times",
+    // For a line of a part that has another count of numbers than it should.
+    pub(crate) fn miscounted(part: Part) -> Self {
+        let why = match part {
+            Part::Gates => "a gate has 7 numbers",
+            Part::Registers => "a register has 3 numbers",
+            Part::Times => "there are 5 times",
         };
-        TurnedAway { refusal, why }
+        TurnedAway {
+            refusal: part.into(),
+            why,
+        }
     }
 }
 
@@ -60,6 +62,7 @@ impl fmt::Display for Missed<'_> {
     fn fmt<W: fmt::Write>(&self, f: &mut fmt::Formatter<W>) -> fmt::Result {
         write!(f, "at {}", self.miss.register)?;
         let gates = self.room.iter().take(self.miss.path).skip(1).step_by(2);
+        // To take the first gate before the loop, in place of `i == 0`, would have the writing of a gate twice.
         for (i, gate) in gates.enumerate() {
             let before = if i == 0 { " by " } else { ", " };
             write!(f, "{before}{gate}")?;

@@ -25,8 +25,8 @@ wanted TooLarge = Small
 -- a number that was read, or what was expected in its place: where a table may stand, its name or its number
 abbrev pub read_as : Bool → List ℕ → Result ℕ Unread → Result ℕ Expected
 read_as table w (Ok x) = Ok x
-read_as table w (Err TooLarge) = Err Small
-read_as table w (Err NoDigit) = cond table (or_fault (named w)) (Err Number)
+read_as table w (Err TooLarge) = Err (wanted TooLarge)
+read_as table w (Err NoDigit) = cond table (or_fault (named w)) (Err (wanted NoDigit))
 
 -- the number that a word stands for
 unfoldable pub field : Bool → List ℕ → Result ℕ Expected

@@ -105,7 +105,8 @@ fn flush(rt: &impl Print, out: &mut String) -> io::Result<()> {
     Ok(())
 }
 
-// The circuits of one text.
+// The circuits of one text. What is collected is written out on both ways out of the loop, so a fault breaks out of it
+// with a value, without `?`. The reader counts lines from 1 in what is handed to it, so those before are added here.
 fn pass_text(
     rt: &(impl Print + AllocGlobal),
     bytes: &[u8],

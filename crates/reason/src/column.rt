@@ -20,7 +20,7 @@ pub enum GateColumn {
 }
 
 impl GateColumn {
-    // What the number at this place of a gate's seven is.
+    // What the number at this place of a gate's seven is. The three `at` are three tables: no two have a row in common.
     pub(crate) fn at(place: usize) -> GateColumn
         requires { place < 7 }
         ensures { gate_place result ≡ place }

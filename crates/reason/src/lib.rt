@@ -120,7 +120,8 @@ fn register(numbers: Numbers<'_>, r: usize) -> RegisterDetail
     RegisterDetail::Clock { early, late }
 }
 
-// The output times, which are out of order.
+// The output times, which are out of order. They are read by index, since those with a name are of a Circuit, and these
+// numbers are none.
 fn output(numbers: Numbers<'_>) -> TimesDetail
     requires five { length numbers.times.now ≡ 5 }
     requires wrong { OutputOrdered numbers.times.now → ⊥ }

@@ -1,10 +1,11 @@
 // A detail in words.
 use crate::detail::{Detail, GateDetail, Large, RegisterDetail, TimesDetail};
+use circuit::{LARGEST, MOST_GATES, MOST_REGISTERS};
 use std::fmt;
 
 impl<C: fmt::Display> fmt::Display for Large<C> {
     fn fmt<W: fmt::Write>(&self, f: &mut fmt::Formatter<W>) -> fmt::Result {
-        write!(f, "{} {} is above 1000000", self.column, self.value)
+        write!(f, "{} {} is above {LARGEST}", self.column, self.value)
     }
 }
 
@@ -60,8 +61,8 @@ impl fmt::Display for Detail {
             Detail::GateNumbers(n) => write!(f, "{n} numbers are not seven for each gate"),
             Detail::RegisterNumbers(n) => write!(f, "{n} numbers are not three for each register"),
             Detail::TimeNumbers(n) => write!(f, "{n} times are not five"),
-            Detail::Registers(n) => write!(f, "{n} registers are not 1 to 1024"),
-            Detail::Gates(n) => write!(f, "{n} gates are more than 16384"),
+            Detail::Registers(n) => write!(f, "{n} registers are not 1 to {MOST_REGISTERS}"),
+            Detail::Gates(n) => write!(f, "{n} gates are more than {MOST_GATES}"),
             Detail::Gate(k, detail) => write!(f, "gate {k}: {detail}"),
             Detail::Register(r, detail) => write!(f, "register {r}: {detail}"),
             Detail::Times(detail) => write!(f, "{detail}"),

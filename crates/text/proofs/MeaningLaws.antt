@@ -4,7 +4,6 @@ use Rattle.std.specs.Borrow.{Bor}
 use Rattle.std.specs.Iterator.{YieldsFirstRef}
 use Rattle.std.specs.List.{filter_map, enumerate_from}
 use Rattle.std.specs.Str.{bytes_eq}
-use Rattle.circuit.specs.declared.refusal.Refusal.{Refusal}
 use Rattle.std.specs.Bool.{then_some}
 use Rattle.std.proofs.lemmas.Bool.{cases_Bool, ne_eqb}
 use Rattle.lines.specs.Words.{bare, words}
@@ -13,6 +12,7 @@ use Rattle.fields.specs.declared.fault.Expected.{Expected}
 use Rattle.fields.specs.declared.fault.Expected.TheVariants.{End as Ending}
 use Rattle.text.specs.declared.draft.Keyword.{Keyword}
 use Rattle.text.specs.declared.draft.Miscount.{Miscount}
+use Rattle.text.specs.declared.part.Part.{Part}
 use Rattle.text.specs.declared.draft.Progress.{Progress}
 use Rattle.text.specs.declared.draft.Progress.TheVariants.{More}
 use Rattle.text.specs.Meaning.{Drafted, meaning, noted, row, said, statement, went, inside, opened, found, first_circuit, begins_with, line_of}
@@ -23,10 +23,10 @@ unfolding statement
 at_word {ws} {rest} n d k first k_is = rw first (ap (λ x. said x n d rest) (sym k_is))
 
 -- a line of numbers that was added to its part or kept as a miscounted one
-pub added : (put : List ℕ → Option Miscount → Drafted) (part : List ℕ) (m : Option Miscount) (e : Refusal) (n : ℕ) {o : Result (Progress × Drafted) Expected} {x : Result (Option (List ℕ)) Expected} → o ≡ row put part m e n x
-    → {part' : List ℕ} {m' : Option Miscount} → ((ns : List ℕ) × (x ≡ Ok (Some ns)) × (part' ≡ part ++ ns) × (m' ≡ m)) ⊎ ((x ≡ Ok None) × (part' ≡ part) × (m' ≡ noted m e n)) → o ≡ Ok (More, put part' m')
-added put part m e n is (inl (ns, x_is, part_is, m_is)) = rw (part_is, m_is) (is ∙ rw x_is refl)
-added put part m e n is (inr (x_is, part_is, m_is)) = rw (part_is, m_is) (is ∙ rw x_is refl)
+pub added : (put : List ℕ → Option Miscount → Drafted) (xs : List ℕ) (m : Option Miscount) (p : Part) (n : ℕ) {o : Result (Progress × Drafted) Expected} {x : Result (Option (List ℕ)) Expected} → o ≡ row put xs m p n x
+    → {xs' : List ℕ} {m' : Option Miscount} → ((ns : List ℕ) × (x ≡ Ok (Some ns)) × (xs' ≡ xs ++ ns) × (m' ≡ m)) ⊎ ((x ≡ Ok None) × (xs' ≡ xs) × (m' ≡ noted m p n)) → o ≡ Ok (More, put xs' m')
+added put xs m p n is (inl (ns, x_is, xs_is, m_is)) = rw (xs_is, m_is) (is ∙ rw x_is refl)
+added put xs m p n is (inr (x_is, xs_is, m_is)) = rw (xs_is, m_is) (is ∙ rw x_is refl)
 
 -- whether the first word is this one
 pub begun : (word : List ℕ) (ws : List (List ℕ)) (r : Option (Bor (List ℕ))) (t : List (List ℕ)) (b : Bool) → YieldsFirstRef (λ xs. xs) ws r t → MatchOption r (b ≡ false) (λ w. b ≡ bytes_eq w.now word) → b ≡ begins_with word ws

@@ -17,6 +17,8 @@ use Rattle.text.specs.declared.draft.Draft.{Draft}
 use Rattle.text.specs.declared.draft.Miscount.{Miscount}
 use Rattle.text.specs.declared.draft.Keyword.{Keyword}
 use Rattle.text.specs.declared.draft.Keyword.TheVariants.{Circuit, Times, Register, Gate, End}
+use Rattle.text.specs.declared.part.Part.{Part}
+use Rattle.text.specs.declared.part.Part.TheVariants.{Gates, Registers, Times as TimesPart}
 use Rattle.text.specs.declared.draft.Progress.{Progress}
 use Rattle.text.specs.declared.draft.Progress.TheVariants.{More, Done}
 
@@ -28,6 +30,16 @@ meaning w =
     (cond (bytes_eq w (codes "times")) (Some Times)
     (cond (bytes_eq w (codes "circuit")) (Some Circuit)
     (cond (bytes_eq w (codes "end")) (Some End) None))))
+
+-- what refuses a circuit where the numbers of a part are too few or too many
+abbrev pub refusal_of : Part → Refusal
+refusal_of Gates = GateNumbers
+refusal_of Registers = RegisterNumbers
+refusal_of TimesPart = TimeNumbers
+
+-- its place, which orders the parts: gates, then registers, then times
+abbrev pub part_place : Part → ℕ
+part_place p = place_of (refusal_of p)
 
 -- a circuit as it is read: its name, the line where it began, its numbers in the order of their lines,
 -- and a line that had another count of numbers than it should
@@ -45,10 +57,10 @@ drafted d = record { name = vec_items d.name; line = d.line; gates = vec_items d
 abbrev pub fresh : (name : List ℕ) (line : ℕ) → Drafted
 fresh name line = record { name = name; line = line; gates = []; registers = []; times = []; miscount = None }
 
--- a miscounted line is kept unless one is kept already of the same part or an earlier one: gates, then registers, then times
-abbrev pub noted : Option Miscount → Refusal → ℕ → Option Miscount
-noted None e n = Some (record { refusal = e; line = n })
-noted (Some m) e n = cond (nat_lt (place_of e) (place_of m.refusal)) (Some (record { refusal = e; line = n })) (Some m)
+-- a miscounted line is kept unless one is kept already of the same part or an earlier one
+abbrev pub noted : Option Miscount → Part → ℕ → Option Miscount
+noted None p n = Some (record { part = p; line = n })
+noted (Some m) p n = cond (nat_lt (part_place p) (part_place m.part)) (Some (record { part = p; line = n })) (Some m)
 
 -- a draft with other numbers of one part and another miscounted line
 abbrev pub with_gates : Drafted → List ℕ → Option Miscount → Drafted
@@ -60,11 +72,11 @@ with_registers d xs m = record { name = d.name; line = d.line; gates = d.gates; 
 abbrev pub with_times : Drafted → List ℕ → Option Miscount → Drafted
 with_times d xs m = record { name = d.name; line = d.line; gates = d.gates; registers = d.registers; times = xs; miscount = m }
 
--- numbers are added to those of their part, or line n is miscounted, to be refused by e
-abbrev pub row : (put : List ℕ → Option Miscount → Drafted) (part : List ℕ) (m : Option Miscount) (e : Refusal) (n : ℕ) → Result (Option (List ℕ)) Expected → Result (Progress × Drafted) Expected
-row put part m e n (Ok (Some ns)) = Ok (More, put (part ++ ns) m)
-row put part m e n (Ok None) = Ok (More, put part (noted m e n))
-row put part m e n (Err k) = Err k
+-- numbers are added to those xs of their part p, or line n is a miscounted one of p
+abbrev pub row : (put : List ℕ → Option Miscount → Drafted) (xs : List ℕ) (m : Option Miscount) (p : Part) (n : ℕ) → Result (Option (List ℕ)) Expected → Result (Progress × Drafted) Expected
+row put xs m p n (Ok (Some ns)) = Ok (More, put (xs ++ ns) m)
+row put xs m p n (Ok None) = Ok (More, put xs (noted m p n))
+row put xs m p n (Err k) = Err k
 
 abbrev pub ending : Drafted → List (List ℕ) → Result (Progress × Drafted) Expected
 ending d [] = Ok (Done, d)
@@ -72,9 +84,9 @@ ending d (w ∷ ws) = Err Nothing
 
 -- what line n makes of a circuit, by its keyword and its other words
 abbrev pub said : Option Keyword → ℕ → Drafted → List (List ℕ) → Result (Progress × Drafted) Expected
-said (Some Gate) n d ws = row (with_gates d) d.gates d.miscount GateNumbers n (fields (Some 2) 0 7 ws)
-said (Some Register) n d ws = row (with_registers d) d.registers d.miscount RegisterNumbers n (fields None 0 3 ws)
-said (Some Times) n d ws = row (with_times d) d.times d.miscount TimeNumbers n (fields None 0 5 ws)
+said (Some Gate) n d ws = row (with_gates d) d.gates d.miscount Gates n (fields (Some 2) 0 7 ws)
+said (Some Register) n d ws = row (with_registers d) d.registers d.miscount Registers n (fields None 0 3 ws)
+said (Some Times) n d ws = row (with_times d) d.times d.miscount TimesPart n (fields None 0 5 ws)
 said (Some End) n d ws = ending d ws
 said (Some Circuit) n d ws = Err Statement
 said None n d ws = Err Statement
@@ -139,11 +151,11 @@ line_of word i n (l ∷ ls) = cond (begins_with word (words (bare l))) (cond (i 
 
 -- THE MEANING OF A TEXT is `first_circuit 1` of its lines, and then the same of the lines that are left.
 
--- the code's answer r to the numbers x of line n, with their part and the miscounted line before and after it
-abbrev pub Added : Result (Option (List ℕ)) Expected → (e : Refusal) (n : ℕ) (part part' : List ℕ) (m m' : Option Miscount) → Result (Unit {0}) Expected → Type 0
-Added x e n part part' m m' r =
+-- the code's answer r to the numbers x of line n, with those of their part p and the miscounted line before and after it
+abbrev pub Added : Result (Option (List ℕ)) Expected → (p : Part) (n : ℕ) (xs xs' : List ℕ) (m m' : Option Miscount) → Result (Unit {0}) Expected → Type 0
+Added x p n xs xs' m m' r =
     MatchResult r
-    (λ _. ((ns : List ℕ) × (x ≡ Ok (Some ns)) × (part' ≡ part ++ ns) × (m' ≡ m)) ⊎ ((x ≡ Ok None) × (part' ≡ part) × (m' ≡ noted m e n)))
+    (λ _. ((ns : List ℕ) × (x ≡ Ok (Some ns)) × (xs' ≡ xs ++ ns) × (m' ≡ m)) ⊎ ((x ≡ Ok None) × (xs' ≡ xs) × (m' ≡ noted m p n)))
     (λ k. (k ≡ Memory) ⊎ (x ≡ Err k))
 
 -- the code's answer r for what is said of a line, with the draft d after it

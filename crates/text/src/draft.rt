@@ -1,5 +1,5 @@
 // A circuit as it is read.
-use circuit::Refusal;
+use crate::part::Part;
 use lines::Lines;
 
 // What a line is, by its first word.
@@ -12,10 +12,10 @@ pub enum Keyword {
     End,
 }
 
-// A line that has another count of numbers than it should: the refusal of its part, and the line, counted from 1.
+// A line that has another count of numbers than it should: its part, and the line, counted from 1.
 #[derive(Clone, Copy)]
 pub struct Miscount {
-    pub refusal: Refusal,
+    pub part: Part,
     pub line: usize,
 }
 

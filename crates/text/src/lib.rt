@@ -8,15 +8,16 @@ ghost use Rattle.fields.specs.Fields.{fields};
 ghost use Rattle.text.specs.Meaning.{meaning, drafted, noted, statement, inside, printable, title, opened, first_circuit, begins_with, line_of, Added, Ended, Stated, Titled, Opened};
 ghost use Rattle.text.specs.Read.{WasRead, IsRead};
 
-use circuit::Refusal;
 use fields::{Expected, Fault};
 use lines::{Lines, Words};
 use std::alloc::Global;
 
 mod draft;
+mod part;
 
 use draft::Progress;
 pub use draft::{Draft, Keyword, Miscount, Read};
+pub use part::Part;
 
 impl Keyword {
     // What a line is that begins with this word.
@@ -35,35 +36,34 @@ impl Keyword {
 }
 
 // A miscounted line is kept unless one is kept already of the same part or an earlier one.
-fn note(miscount: Option<Miscount>, refusal: Refusal, line: usize) -> Option<Miscount>
-    ensures { result ≡ noted miscount refusal line }
+fn note(miscount: Option<Miscount>, part: Part, line: usize) -> Option<Miscount>
+    ensures { result ≡ noted miscount part line }
 {
     match miscount {
-        Some(kept) if kept.refusal.place() <= refusal.place() => Some(kept),
-        _ => Some(Miscount { refusal, line }),
+        Some(kept) if kept.part <= part => Some(kept),
+        _ => Some(Miscount { part, line }),
     }
 }
 
-// What the lines of a part have: the refusal if their numbers are too few or too many, and the column, if any, where a
-// table may stand.
+// The lines of a part: which part, and the column, if any, where a table may stand.
 #[derive(Clone, Copy)]
 struct Row {
-    refusal: Refusal,
+    part: Part,
     table_at: Option<usize>,
 }
 
 const GATE: Row = Row {
-    refusal: Refusal::GateNumbers,
+    part: Part::Gates,
     table_at: Some(2),
 };
 
 const REGISTER: Row = Row {
-    refusal: Refusal::RegisterNumbers,
+    part: Part::Registers,
     table_at: None,
 };
 
 const TIMES: Row = Row {
-    refusal: Refusal::TimeNumbers,
+    part: Part::Times,
     table_at: None,
 };
 
@@ -72,15 +72,15 @@ fn add<const N: usize>(
     text: &[u8],
     line: usize,
     row: Row,
-    part: &mut Vec<u32>,
+    so_far: &mut Vec<u32>,
     miscount: &mut Option<Miscount>,
 ) -> Result<(), Expected>
     requires { N * 4 < 2 ^ 63 }
-    ensures { Added (fields row.table_at 0 N (words text.now)) row.refusal line part.old.items part.new.items miscount.old miscount.new result }
+    ensures { Added (fields row.table_at 0 N (words text.now)) row.part line so_far.old.items so_far.new.items miscount.old miscount.new result }
 {
     match fields::read::<N>(text, row.table_at)? {
-        Some(numbers) => part.extend_from_slice(&numbers)?,
-        None => *miscount = note(*miscount, row.refusal, line),
+        Some(numbers) => so_far.extend_from_slice(&numbers)?,
+        None => *miscount = note(*miscount, row.part, line),
     }
     Ok(())
 }
