@@ -46,8 +46,8 @@ pub(crate) fn delays_of(bench: Bench<'_>, k: usize, t: u64, said: Option<Entry>)
         one: e.one,
         two: e.two,
     });
-    let chosen = bench.script.seed.map(|seed| chosen(gate, seed, k, t));
-    said.or(chosen).unwrap_or(Delays {
+    let by_seed = || bench.script.seed.map(|seed| chosen(gate, seed, k, t));
+    said.or_else(by_seed).unwrap_or(Delays {
         one: gate.least_one,
         two: gate.least_two,
     })
@@ -58,9 +58,9 @@ pub(crate) fn show_of(bench: Bench<'_>, r: usize, t: u64, said: Option<Entry>) -
     ensures { result ≡ show_of bench.entry.script.now.seed r t said }
 {
     let said = said.map(Entry::bit);
-    let chosen = bench
+    let chosen = || bench
         .script
         .seed
         .map(|seed| chance::odd(Choice::Show.draw(seed, r as u64, t)));
-    said.or(chosen).unwrap_or(false)
+    said.or_else(chosen).unwrap_or(false)
 }

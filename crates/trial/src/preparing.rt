@@ -37,10 +37,10 @@ fn start_of(script: &Script, r: usize) -> bool
         .start
         .as_ref()
         .map(|bits| bits.get(r).copied().unwrap_or(false));
-    let chosen = script
+    let chosen = || script
         .seed
         .map(|seed| chance::odd(Choice::Start.draw(seed, r as u64, 0)));
-    told.or(chosen).unwrap_or(false)
+    told.or_else(chosen).unwrap_or(false)
 }
 
 // The bits of the first cycle.
