@@ -43,7 +43,7 @@ fn start_of(script: &Script, r: usize) -> bool
     told.or_else(chosen).unwrap_or(false)
 }
 
-// The bits of the first cycle.
+// The bits of the first cycle. A loop over the numbers of registers: a history is written row by row, by number.
 fn start_bits(bench: Bench<'_>, bits: &mut History)
     ensures { bits.old.rows ≡ registers_of bench.entry.circuit → of bench.entry.circuit (Started bench.entry.script.now) (registers_of bench.entry.circuit) bits.old bits.new }
 {
