@@ -24,13 +24,13 @@ impl Bench<'_> {
         let said = self
             .script
             .said_in(Kind::Clock, n, r)
-            .map(|e| begin.saturating_add(e.one as u64));
-        let chosen = self.script.seed.map(|seed| chance::between(
+            .map(|e| begin.saturating_add(u64::from(e.one)));
+        let chosen = || self.script.seed.map(|seed| chance::between(
             Choice::Clock.draw(seed, n, r as u64),
             low,
             high,
         ));
-        said.or(chosen).unwrap_or(low)
+        said.or_else(chosen).unwrap_or(low)
     }
 
     // Register `r`, or one of zeros where there is none.
@@ -47,7 +47,7 @@ impl Bench<'_> {
         ensures bound { result ≤ 2 ^ 32 }
     {
         let register = self.register(r);
-        self.clock_between(0, r, 0, register.early as u64, register.late as u64)
+        self.clock_between(0, r, 0, u64::from(register.early), u64::from(register.late))
     }
 
     // The clock of register `r` in cycle `n`, within its bounds and after the one before it.
@@ -55,11 +55,11 @@ impl Bench<'_> {
         ensures value { SmallClock self.entry.circuit.times.now n before → (m : ℕ) → n ≡ suc m → before ≡ clock_at self.entry m r → result ≡ clock_at self.entry n r }
         ensures bound { result ≤ max (n * period self.entry.circuit.times.now + 2 ^ 32) (before + 1) }
     {
-        let begin = n.saturating_mul(self.circuit.period() as u64);
+        let begin = n.saturating_mul(u64::from(self.circuit.period()));
         let register = self.register(r);
-        let first = begin.saturating_add(register.early as u64);
+        let first = begin.saturating_add(u64::from(register.early));
         let low = first.max(before.saturating_add(1));
-        let high = begin.saturating_add(register.late as u64);
+        let high = begin.saturating_add(u64::from(register.late));
         self.clock_between(n, r, begin, low, high)
     }
 }

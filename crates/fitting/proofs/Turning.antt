@@ -5,7 +5,7 @@ use Rattle.script.specs.declared.entry.Entry.{Entry}
 use Rattle.script.specs.declared.script.Script.{Script}
 use Rattle.script.specs.Entries.{no_entry, entry, Ordered}
 use Rattle.script.specs.Told.{clock_told}
-use Rattle.fitting.specs.Misfit.{FirstMisfit, earlier, TurnOf}
+use Rattle.fitting.specs.Misfit.{FirstMisfit, FirstMisfitIn, earlier, TurnOf}
 use Rattle.fitting.proofs.Firsts.{fit_more, misfit_more}
 
 -- after i statements: the clock of cycle n is known, no statement to come is before the next cycle, and the first line is that of the misfits so far
@@ -18,7 +18,7 @@ pub record Walked (s : Script) (g r ts : List ℕ) (q : ℕ) (es : List Entry) (
 
 module _ {s : Script} {g r ts : List ℕ} {q : ℕ} {es : List Entry} {i n clock : ℕ} {first : Option ℕ} (walked : Walked s g r ts q es i n clock first) where
   -- all were looked at
-  pub all_walked : (es' : List Entry) → es ≡ es' → i ≡ length es → FirstMisfit (TurnOf s g r ts q) es' (length es') first
+  pub all_walked : (es' : List Entry) → es ≡ es' → i ≡ length es → FirstMisfitIn (TurnOf s g r ts q) es' first
   all_walked es' same all = rw (← same, ← all) walked.so_far
 
   -- one that is about another register, or in the first cycle

@@ -18,6 +18,10 @@ abbrev pub FirstMisfit : (Entry → Type 0) → List Entry → ℕ → Option �
 FirstMisfit P es n None = (i : ℕ) → i < n → P (entry es i)
 FirstMisfit P es n (Some l) = ((i : ℕ) × (i < n) × ((entry es i).line ≡ l) × (P (entry es i) → ⊥)) × ((j : ℕ) → j < n → (entry es j).line < l → P (entry es j))
 
+-- the same of all statements of a list
+abbrev pub FirstMisfitIn : (Entry → Type 0) → List Entry → Option ℕ → Type 0
+FirstMisfitIn P es = FirstMisfit P es (length es)
+
 -- the earlier of two lines
 abbrev pub earlier : Option ℕ → Option ℕ → Option ℕ
 earlier None b = b

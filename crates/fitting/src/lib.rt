@@ -1,13 +1,13 @@
 // Whether all that a script tells lies within the bounds of a circuit.
 #![tactic(auto)]
 
-ghost use Rattle.std.specs.Prelude.{◌≡◌, ℕ, ◌+◌, ◌*◌, ◌^◌, ◌<◌, ◌≤◌, Bool, length, MatchResult};
+ghost use Rattle.std.specs.Prelude.{◌≡◌, ℕ, ◌+◌, ◌*◌, ◌^◌, ◌<◌, ◌≤◌, Bool, MatchResult};
 ghost use Rattle.std.specs.Iterator.{ActsAsAt};
 ghost use Rattle.circuit.specs.Checked.{of, registers_of};
 ghost use Rattle.circuit.specs.Lent.{period};
 ghost use Rattle.script.specs.Told.{DelayFits, Fits};
 ghost use Rattle.clocks.specs.Benches.{clock_at};
-ghost use Rattle.fitting.specs.Misfit.{first_line, FirstMisfit, earlier, ClockWithin, clock_passes, delay_passes, TurnOf, TurnsBelow, Misfit};
+ghost use Rattle.fitting.specs.Misfit.{first_line, FirstMisfitIn, earlier, ClockWithin, clock_passes, delay_passes, TurnOf, TurnsBelow, Misfit};
 
 mod unfit;
 
@@ -57,7 +57,7 @@ fn first_line<F: FnMut(&&Entry) -> bool>(entries: &[Entry], picks: F) -> Option<
 
 // The first line on which a delay does not fit.
 fn misfit_delay(bench: Bench<'_>) -> Option<usize>
-    ensures { FirstMisfit (of bench.entry.circuit (DelayFits bench.entry.script.now)) bench.entry.script.now.delays (length bench.entry.script.now.delays) result }
+    ensures { FirstMisfitIn (of bench.entry.circuit (DelayFits bench.entry.script.now)) bench.entry.script.now.delays result }
 {
     let Bench { circuit, script } = bench;
     first_line(script.delays.as_slice(), |e| !delay_fits(circuit, e))
@@ -65,13 +65,14 @@ fn misfit_delay(bench: Bench<'_>) -> Option<usize>
 
 // The first line on which a clock is out of its register's bounds.
 fn misfit_clock(bench: Bench<'_>) -> Option<usize>
-    ensures { FirstMisfit (ClockWithin bench.entry.circuit.registers.now) bench.entry.script.now.clocks (length bench.entry.script.now.clocks) result }
+    ensures { FirstMisfitIn (ClockWithin bench.entry.circuit.registers.now) bench.entry.script.now.clocks result }
 {
     let Bench { circuit, script } = bench;
     first_line(script.clocks.as_slice(), |e| !clock_within(circuit, e))
 }
 
-// The clock of register `r` in cycle `to`, from its clock in cycle `from`.
+// The clock of register `r` in cycle `to`, from its clock in cycle `from`. A loop, as each clock is found from the one
+// before it.
 fn walk(bench: Bench<'_>, r: usize, from: u64, clock: u64, to: u64) -> u64
     requires order { from ≤ to }
     requires small { to < 2 ^ 32 }
@@ -89,18 +90,19 @@ fn walk(bench: Bench<'_>, r: usize, from: u64, clock: u64, to: u64) -> u64
 
 // The first line on which a clock of register `r` does not come after the one before it.
 fn misfit_turn(bench: Bench<'_>, r: usize) -> Option<usize>
-    ensures { FirstMisfit (of bench.entry.circuit (TurnOf bench.entry.script.now) r) bench.entry.script.now.clocks (length bench.entry.script.now.clocks) result }
+    ensures { FirstMisfitIn (of bench.entry.circuit (TurnOf bench.entry.script.now) r) bench.entry.script.now.clocks result }
 {
-    let period = bench.circuit.period() as u64;
+    let period = u64::from(bench.circuit.period());
     let mut first = None;
     let mut n = 0;
     let mut clock = bench.first_clock(r);
     for e in bench.script.clocks.as_slice() {
-        let when = e.when as u64;
+        let when = u64::from(e.when);
+        let one = u64::from(e.one);
         if e.who as usize == r && when > 0 {
             clock = walk(bench, r, n, clock, when - 1);
             n = when - 1;
-            if clock >= when * period + e.one as u64 {
+            if clock >= when * period + one {
                 first = earlier(first, Some(e.line));
             }
         }
@@ -110,13 +112,11 @@ fn misfit_turn(bench: Bench<'_>, r: usize) -> Option<usize>
 
 // The first line on which a clock does not come after the one before it at its register.
 fn misfit_turns(bench: Bench<'_>) -> Option<usize>
-    ensures { FirstMisfit (of bench.entry.circuit (TurnsBelow bench.entry.script.now) (registers_of bench.entry.circuit)) bench.entry.script.now.clocks (length bench.entry.script.now.clocks) result }
+    ensures { FirstMisfitIn (of bench.entry.circuit (TurnsBelow bench.entry.script.now) (registers_of bench.entry.circuit)) bench.entry.script.now.clocks result }
 {
-    let mut first = None;
-    for r in 0..bench.circuit.register_count() {
-        first = earlier(first, misfit_turn(bench, r));
-    }
-    first
+    (0..bench.circuit.register_count())
+        .filter_map(|r| misfit_turn(bench, r))
+        .min()
 }
 
 // Whether all that a script tells lies within the bounds of a circuit, and told clocks come one after another; else the

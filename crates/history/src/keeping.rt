@@ -7,6 +7,7 @@ use std::alloc::{AllocError, Global};
 
 const MOST: u64 = 0x8000_0000;
 
+// Bit `i` of packed words. Shift and mask, here and in `put_bit`, are the plain form of that.
 fn bit_at(words: &[u64], i: usize) -> bool
     requires { i / 64 < length words.now }
     ensures { result ≡ bit_in words.now i }
@@ -20,7 +21,7 @@ fn put_bit(words: &mut [u64], i: usize, bit: bool)
     ensures other { (j : ℕ) → (j ≢ i) → bit_in words.new j ≡ bit_in words.old j }
 {
     let old = bit_at(words, i);
-    words[i / 64] ^= ((old != bit) as u64) << (i % 64);
+    words[i / 64] ^= u64::from(old != bit) << (i % 64);
 }
 
 // The smallest number of which two to its power is above `n`.
@@ -38,7 +39,7 @@ impl History {
         ensures { IfOk result (λ h. Fresh h rows back) }
     {
         let log = bits_of(back);
-        // past the limits it asks for more words than any memory has
+        // Past the limits it asks for more words than any memory has
         let words = if rows as u64 <= MOST && back < MOST {
             (rows << log).div_ceil(64)
         } else {

@@ -35,7 +35,8 @@ fn stir(x: u64) -> u64
     x ^ (x >> 31)
 }
 
-// The number that belongs to a seed, a kind of choice, and two numbers.
+// The number that belongs to a seed, a kind of choice, and two numbers. It stands beside `Choice::draw` as its promise is
+// for every number of a kind.
 pub fn draw(seed: u64, kind: u64, a: u64, b: u64) -> u64
     ensures { result ≡ drawn_from seed kind a b }
 {

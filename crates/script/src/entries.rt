@@ -7,6 +7,7 @@ use std::alloc::{AllocError, Global};
 use std::marker::Model;
 
 // Statements in order of their moments or cycles. Of several about the same the last counts.
+// A list and no map: their order is kept, and every line is needed.
 #[derive(Drop)]
 pub struct Entries {
     list: Vec<Entry>,
@@ -57,9 +58,9 @@ impl Entries {
     pub(crate) fn said_in(&self, n: u64, who: usize) -> Option<Entry>
         ensures { result ≡ said_in self.now n who }
     {
-        let past = self.list.partition_point(|e| e.when as u64 <= n);
+        let past = self.list.partition_point(|e| u64::from(e.when) <= n);
         let upto = &self.list[..past];
-        let first = upto.partition_point(|e| (e.when as u64) < n);
+        let first = upto.partition_point(|e| u64::from(e.when) < n);
         last_about(&upto[first..], who)
     }
 }

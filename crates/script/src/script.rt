@@ -38,7 +38,8 @@ impl Script {
         }
     }
 
-    // The statements of a kind.
+    // The statements of a kind. (`push` matches the kind too: a list handed out to write in would need a clause on what is
+    // lent.)
     pub fn entries(&self, kind: Kind) -> &Entries
         ensures { result.now ≡ entries self.now kind }
     {

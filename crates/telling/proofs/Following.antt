@@ -1,10 +1,12 @@
 -- What registers are told, one after another.
-use Rattle.std.proofs.Common.{◌≡◌, ℕ, ◌+◌, ◌<◌, ◌≢◌, List, [], length, get_or, set, ◌++◌, ◌∷◌, sym, refl, ◌∙◌, inl, inr, arith}
-use Rattle.std.proofs.lemmas.List.{get_or-set_same, get_or-set_other, get_or_append_left, length-set, length-append}
-use Rattle.std.proofs.Math.Seq.{get_or-append_seam}
+use Rattle.std.proofs.Common.{◌≡◌, ℕ, ◌+◌, ◌<◌, ◌≢◌, List, length, get_or, set, map, sym, refl, ◌∙◌, inl, inr, arith}
+use Rattle.std.specs.List.{range_with_len}
+use Rattle.std.proofs.lemmas.List.{get_or-set_same, get_or-set_other, length-set}
+use Rattle.std.proofs.lemmas.List.FromFn.{length-map-range_with_len, get_or-map-range_with_len}
 use Rattle.std.proofs.lemmas.Bool.{cases_eq}
 use Rattle.script.specs.declared.script.Script.{Script}
-use Rattle.step.specs.Lent.{clocks_at}
+use Rattle.script.specs.Told.{clock_told, take_told}
+use Rattle.step.specs.Lent.{no_clocks, clocks_at}
 use Rattle.step.specs.declared.told.Clocks.{Clocks}
 use Rattle.telling.specs.Said.{ClocksTold, ClocksGoOn, Followed, FirstTold}
 
@@ -52,21 +54,19 @@ module _ (s : Script) (g r ts cycles : List ℕ) where
       ];
     }
 
--- one more register is told what goes for its first cycle
-module _ {s : Script} {g r ts : List ℕ} where
-  pub none_begun : FirstTold s g r ts 0 []
-  none_begun = record { size = refl; told = λ q l. absurd (omega arith) }
+-- what registers are told in their first cycle
+module _ (s : Script) (g r ts : List ℕ) where
+  abbrev pub clocks_first : ℕ → Clocks
+  clocks_first q = record { cycle = 0; clock = clock_told s g r ts 0 q; next = clock_told s g r ts 1 q; after = clock_told s g r ts 2 q; take = take_told s g r ts 1 q }
 
-  pub begun_more : {i : ℕ} {clocks : List Clocks} {now : Clocks} → FirstTold s g r ts i clocks → ClocksTold s g r ts i 0 now → FirstTold s g r ts (i + 1) (clocks ++ (now ∷ []))
-  begun_more {i} {clocks} {now} so_far told = record {
-    size = length-append clocks (now ∷ []) ∙ omega (arith, so_far.size);
-    told = λ q l. elim (cases_eq q (length clocks)) [
-      | inl e ↦
-          let same : q ≡ i = omega (arith, so_far.size, e) in
-          let here : clocks_at (clocks ++ (now ∷ [])) q ≡ now = rw e (get_or-append_seam clocks now [] _) in
-          rw (here, same) told
-      | inr ne ↦
-          let before : clocks_at (clocks ++ (now ∷ [])) q ≡ clocks_at clocks q = get_or_append_left clocks (now ∷ []) _ q (omega (arith, so_far.size, ne)) in
-          rw before (so_far.told q (omega (arith, so_far.size, ne)))
-    ];
+  pub is_first : (q : ℕ) (now : Clocks) → ClocksTold s g r ts q 0 now → now ≡ clocks_first q
+  is_first q now told = λ i. record { cycle = told.cycle i; clock = told.clock i; next = told.next i; after = told.after i; take = told.take i }
+
+  all_first : (n : ℕ) → FirstTold s g r ts n (map clocks_first (range_with_len 0 n))
+  all_first n = record {
+    size = length-map-range_with_len clocks_first 0 n;
+    told = λ q h. rw (get_or-map-range_with_len clocks_first 0 n q q no_clocks h (omega arith)) (record { cycle = refl; clock = refl; next = refl; after = refl; take = refl });
   }
+
+  pub begun : (n : ℕ) (clocks : List Clocks) → clocks ≡ map clocks_first (range_with_len 0 n) → FirstTold s g r ts n clocks
+  begun n clocks e = rw e (all_first n)

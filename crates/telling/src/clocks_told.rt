@@ -39,12 +39,9 @@ fn go_on(bench: Bench<'_>, r: usize, n: u64, told: Clocks) -> Clocks
 pub(crate) fn begin(heap: Global, bench: Bench<'_>) -> Result<Vec<Clocks>, AllocError>
     ensures { IfOk result (λ v. of bench.entry.circuit (FirstTold bench.entry.script.now) (registers_of bench.entry.circuit) v.items) }
 {
-    let n = bench.circuit.register_count();
-    let mut clocks = Vec::with_capacity(heap, n)?;
-    for r in 0..n {
-        clocks.push(first(bench, r))?;
-    }
-    Ok(clocks)
+    (0..bench.circuit.register_count())
+        .map(|r| first(bench, r))
+        .collect(heap)
 }
 
 // What registers are told in the cycles that they have come to, which are those of which they were told or the next.

@@ -41,8 +41,8 @@ pub(crate) fn delays_of(
         one: e.one,
         two: e.two,
     });
-    let chosen = seed.map(|seed| chosen(gate, seed, k, t));
-    said.or(chosen).unwrap_or(Delays {
+    let by_seed = || seed.map(|seed| chosen(gate, seed, k, t));
+    said.or_else(by_seed).unwrap_or(Delays {
         one: gate.least_one,
         two: gate.least_two,
     })
@@ -53,6 +53,6 @@ pub(crate) fn show_of(seed: Option<u64>, r: usize, t: u64, said: Option<Entry>) 
     ensures { result ≡ show_of seed r t said }
 {
     let said = said.map(Entry::bit);
-    let chosen = seed.map(|seed| chance::odd(Choice::Show.draw(seed, r as u64, t)));
-    said.or(chosen).unwrap_or(false)
+    let chosen = || seed.map(|seed| chance::odd(Choice::Show.draw(seed, r as u64, t)));
+    said.or_else(chosen).unwrap_or(false)
 }

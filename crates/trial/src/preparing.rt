@@ -37,13 +37,13 @@ fn start_of(script: &Script, r: usize) -> bool
         .start
         .as_ref()
         .map(|bits| bits.get(r).copied().unwrap_or(false));
-    let chosen = script
+    let chosen = || script
         .seed
         .map(|seed| chance::odd(Choice::Start.draw(seed, r as u64, 0)));
-    told.or(chosen).unwrap_or(false)
+    told.or_else(chosen).unwrap_or(false)
 }
 
-// The bits of the first cycle.
+// The bits of the first cycle. A loop over the numbers of registers: a history is written row by row, by number.
 fn start_bits(bench: Bench<'_>, bits: &mut History)
     ensures { bits.old.rows ≡ registers_of bench.entry.circuit → of bench.entry.circuit (Started bench.entry.script.now) (registers_of bench.entry.circuit) bits.old bits.new }
 {

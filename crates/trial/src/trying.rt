@@ -52,7 +52,8 @@ impl<'a> Trial<'a> {
         Ok(Trial::new(bench, room))
     }
 
-    // One moment more, unless the next cycle is done.
+    // One moment more, true; or false where the next cycle is done. A flag, as that is no error: `cycle` goes on while it is
+    // true.
     pub fn step(&mut self) -> bool
         ensures { Stepped self.old self.new result }
     {

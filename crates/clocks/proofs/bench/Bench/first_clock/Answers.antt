@@ -9,4 +9,4 @@ returns-clause-value c =
     let x = c.register-register.ensures in
     let z : ◌≡◌ {A = ℕ} 0 (0 * period k.times.now) = omega arith in
     c.clock_between.ensures.value k.gates.now k.registers.now k.times.now z (omega arith)
-    ∙ clock_first c.args.self.script.now k.gates.now k.registers.now k.times.now c.args.r _ _ (ap (λ y. y.early) x) (ap (λ y. y.late) x)
+    ∙ clock_first c.args.self.script.now k.gates.now k.registers.now k.times.now c.args.r _ _ (c.from.ensures ∙ ap (λ y. y.early) x) (c.from-2.ensures ∙ ap (λ y. y.late) x)

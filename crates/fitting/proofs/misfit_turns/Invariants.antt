@@ -1,7 +1,0 @@
-use Rattle.std.proofs.Common.{length}
-use Rattle.circuit.specs.Checked.{of}
-use Rattle.fitting.specs.Misfit.{FirstMisfit, TurnsBelow}
-use Rattle.fitting.proofs.misfit_turns.Given as goal
-
-abbrev pub invariant-loop-r : goal.invariant-loop-r
-invariant-loop-r l = FirstMisfit (of l.bench.circuit (TurnsBelow l.bench.script.now) l.r) l.bench.script.now.clocks (length l.bench.script.now.clocks) l.first
