@@ -9,8 +9,8 @@ use crate::entry::Entry;
 use crate::kind::Kind;
 use std::alloc::{AllocError, Global};
 
-// How many cycles are to be gone; the registers' bits at the start, if these are told, 0 of those past the list's end; a seed by which what is not told is
-// chosen; and the statements of each kind.
+// How many cycles are to be gone; the registers' bits at the start, if these are told, 0 of those past the list's end; a
+// seed by which what is not told is chosen; and the statements of each kind.
 #[derive(Drop)]
 pub struct Script {
     pub cycles: u32,

@@ -9,6 +9,7 @@ use script::Entry;
 use std::alloc::{AllocError, Global};
 
 // What is told now of each gate or register, the last statement about each so far, and how many statements that takes in.
+// The values stand in a list of their own, since they alone are lent, as one slice.
 #[derive(Drop)]
 pub struct Part<V> {
     pub values: Vec<V>,
