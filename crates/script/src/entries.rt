@@ -44,7 +44,7 @@ impl Entries {
     }
 
     // One statement more, true; or false where it comes before another, and nothing is changed.
-    pub(crate) fn push(&mut self, e: Entry) -> Result<bool, AllocError>
+    pub fn push(&mut self, e: Entry) -> Result<bool, AllocError>
         ensures { MatchResult result (λ added. Added e self.old self.new added) (λ _. self.new ≡ self.old) }
     {
         let fits = self.list.last().is_none_or(|last| last.when <= e.when);
