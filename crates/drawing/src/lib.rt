@@ -34,6 +34,7 @@ fn settle_gates(circuit: Circuit<'_>, signals: &mut [bool])
     while let Some(gate) = rest.first_chunk() {
         signals[at] = output_of(Gate::from(*gate), signals);
         at += 1;
+        // The part from the next gate on is handed on, as docs/DECISIONS.md names it.
         rest = &rest[7..];
     }
 }

@@ -53,6 +53,7 @@ fn gates_on(a: Arrivals<'_, '_>, edge: Edge, to: usize) -> usize
     let n = a.circuit.register_count();
     let mut at = to;
     let mut count = 0;
+    // Back from signal to signal: no list is gone over.
     while at >= n {
         at = back(a, edge, at - n).from;
         count += 1;
@@ -79,6 +80,7 @@ fn put(a: Arrivals<'_, '_>, edge: Edge, to: usize, count: usize, out: &mut [u32]
     let n = a.circuit.register_count();
     let mut at = to;
     let mut i = 1 + 2 * count;
+    // Back from signal to signal; where this ends is the path's source, which an iterator of steps would not give.
     while at >= n {
         let step = back(a, edge, at - n);
         put_step(out, i, at as u32, step.second);
