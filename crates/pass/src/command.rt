@@ -3,7 +3,7 @@ use std::env;
 use std::env::Env;
 
 #[derive(Drop)]
-pub enum Command {
+pub(crate) enum Command {
     Help,
     Version,
     // Nothing that can be done, so how it is asked for is told.
@@ -18,7 +18,7 @@ fn is_option(arg: &str) -> bool {
 impl Command {
     // `--help` goes before `--version`, and both go before all that is not an option. An unknown option is told, and nothing
     // after it is read.
-    pub fn read(rt: &(impl Env + AllocGlobal + Eprint)) -> anyhow::Result<Command> {
+    pub(crate) fn read(rt: &(impl Env + AllocGlobal + Eprint)) -> anyhow::Result<Command> {
         let mut asked = None;
         let mut exit_zero = false;
         let mut files = Vec::new(rt.alloc());
