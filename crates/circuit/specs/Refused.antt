@@ -3,7 +3,7 @@ use Rattle.std.specs.Prelude.{◌≡◌, ℕ, ◌%◌, ◌<◌, ◌≤◌, ◌�
 use Rattle.circuit.specs.Lent.{gate_count, register_count, signal_count}
 use Rattle.circuit.specs.Whole.{Whole, Shaped, SomeRegisters, FewGates, Small, Placed, Ranged, Tied, OutputOrdered}
 use Rattle.circuit.specs.declared.refusal.Refusal.{Refusal}
-use Rattle.circuit.specs.declared.refusal.Refusal.TheVariants.{GateNumbers, RegisterNumbers, TimeNumbers, RegisterCount, GateCount, TooLarge, BadGate, BadDelay, BadRegister, BadOutput, NoSignal, NoRoom}
+use Rattle.circuit.specs.declared.refusal.Refusal.TheVariants.{GateNumbers, RegisterNumbers, TimeNumbers, RegisterCount, GateCount, TooLarge, BadGate, BadDelay, BadRegister, BadOutput, NoSignal, NoRoom, OutOfBounds, NoPeriod, NoMoment}
 
 -- the number of each case
 abbrev pub number_of : Refusal → ℕ
@@ -19,6 +19,9 @@ number_of (BadRegister r) = 6
 number_of BadOutput = 7
 number_of (NoSignal s) = 6
 number_of (NoRoom n) = 8
+number_of (OutOfBounds line) = 9
+number_of NoPeriod = 10
+number_of NoMoment = 10
 
 -- its place, counted from 0; of room that is too short the length that is needed
 abbrev pub place_of : Refusal → ℕ
@@ -34,6 +37,9 @@ place_of (BadRegister r) = r
 place_of BadOutput = 0
 place_of (NoSignal s) = s
 place_of (NoRoom n) = n
+place_of (OutOfBounds line) = line
+place_of NoPeriod = 0
+place_of NoMoment = 1
 
 module _ (gates registers times : List ℕ) where
   -- that a case applies to the numbers of a circuit
@@ -50,6 +56,9 @@ module _ (gates registers times : List ℕ) where
   Applies BadOutput = OutputOrdered times → ⊥
   Applies (NoSignal s) = ⊥
   Applies (NoRoom n) = ⊥
+  Applies (OutOfBounds line) = ⊥
+  Applies NoPeriod = ⊥
+  Applies NoMoment = ⊥
 
 -- P holds of every number below n; or i is the first of which it does not
 abbrev pub AllOrFirst : (ℕ → Type 0) → ℕ → Option ℕ → Type 0

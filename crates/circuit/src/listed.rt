@@ -18,6 +18,8 @@ impl Refusal {
             Refusal::BadRegister(_) | Refusal::NoSignal(_) => 6,
             Refusal::BadOutput => 7,
             Refusal::NoRoom(_) => 8,
+            Refusal::OutOfBounds(_) => 9,
+            Refusal::NoPeriod | Refusal::NoMoment => 10,
         }
     }
 
@@ -38,6 +40,9 @@ impl Refusal {
             Refusal::BadOutput => 0,
             Refusal::NoSignal(s) => s,
             Refusal::NoRoom(n) => n,
+            Refusal::OutOfBounds(line) => line,
+            Refusal::NoPeriod => 0,
+            Refusal::NoMoment => 1,
         }
     }
 }

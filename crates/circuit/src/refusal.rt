@@ -26,4 +26,10 @@ pub enum Refusal {
     NoSignal(usize),
     // Lent room is too short: it needs this length.
     NoRoom(usize),
+    // On the bench, a delay or a clock on this line is out of its bounds.
+    OutOfBounds(usize),
+    // On the bench, the period is 0, with which no run is possible.
+    NoPeriod,
+    // On the bench, setup and latest output time are both 0, with which a run may not be possible.
+    NoMoment,
 }

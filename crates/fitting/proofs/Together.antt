@@ -8,7 +8,7 @@ use Rattle.script.specs.declared.entry.Entry.{Entry}
 use Rattle.script.specs.declared.script.Script.{Script}
 use Rattle.script.specs.Entries.{entry}
 use Rattle.script.specs.Told.{clock_told, DelayFits, ClockFits, Fits}
-use Rattle.fitting.specs.declared.unfit.Unfit.TheVariants.{OutOfBounds}
+use Rattle.circuit.specs.declared.refusal.Refusal.TheVariants.{OutOfBounds}
 use Rattle.fitting.specs.Misfit.{first_line, FirstMisfitIn, earlier, ClockWithin, TurnOf, TurnsBelow, Misfit}
 use Rattle.fitting.proofs.Firsts.{misfit_same, misfit_both, first_unique, first_of_least, least_in_range}
 

@@ -6,8 +6,8 @@ use Rattle.script.specs.declared.entry.Entry.{Entry}
 use Rattle.script.specs.declared.script.Script.{Script}
 use Rattle.script.specs.Entries.{entry}
 use Rattle.script.specs.Told.{clock_told, DelayFits, ClockFits}
-use Rattle.fitting.specs.declared.unfit.Unfit.{Unfit}
-use Rattle.fitting.specs.declared.unfit.Unfit.TheVariants.{OutOfBounds}
+use Rattle.circuit.specs.declared.refusal.Refusal.{Refusal}
+use Rattle.circuit.specs.declared.refusal.Refusal.TheVariants.{OutOfBounds}
 
 -- the least line of the statements that pass a test
 abbrev pub first_line : (Entry → Bool) → List Entry → Option ℕ
@@ -53,7 +53,7 @@ abbrev pub TurnsBelow : (s : Script) (g r ts : List ℕ) (q : ℕ) → Entry →
 TurnsBelow s g r ts q e = e.who < q → InTurn s g r ts e
 
 -- the first line on which a delay or a clock does not fit
-pub record Misfit (s : Script) (g r ts : List ℕ) (e : Unfit) : Type 0 where
+pub record Misfit (s : Script) (g r ts : List ℕ) (e : Refusal) : Type 0 where
   pub line : ℕ
   pub is : e ≡ OutOfBounds line
   pub there : ((i : ℕ) × (i < length s.delays) × ((entry s.delays i).line ≡ line) × (DelayFits s g r ts (entry s.delays i) → ⊥))

@@ -9,12 +9,9 @@ ghost use Rattle.script.specs.Told.{DelayFits, Fits};
 ghost use Rattle.clocks.specs.Benches.{clock_at};
 ghost use Rattle.fitting.specs.Misfit.{first_line, FirstMisfitIn, earlier, ClockWithin, clock_passes, delay_passes, TurnOf, TurnsBelow, Misfit};
 
-mod unfit;
-
-use circuit::{Circuit, Gate, Register};
+use circuit::{Circuit, Gate, Refusal, Register};
 use clocks::Bench;
 use script::Entry;
-pub use unfit::Unfit;
 
 // The earlier of two lines.
 fn earlier(a: Option<usize>, b: Option<usize>) -> Option<usize>
@@ -121,7 +118,7 @@ fn misfit_turns(bench: Bench<'_>) -> Option<usize>
 
 // Whether all that a script tells lies within the bounds of a circuit, and told clocks come one after another; else the
 // first line on which something does not.
-pub fn fits(bench: Bench<'_>) -> Result<(), Unfit>
+pub fn fits(bench: Bench<'_>) -> Result<(), Refusal>
     ensures { MatchResult result
         (λ _. of bench.entry.circuit (Fits bench.entry.script.now))
         (λ e. of bench.entry.circuit (Misfit bench.entry.script.now) e) }
@@ -129,6 +126,6 @@ pub fn fits(bench: Bench<'_>) -> Result<(), Unfit>
     let clocks = earlier(misfit_clock(bench), misfit_turns(bench));
     match earlier(misfit_delay(bench), clocks) {
         None => Ok(()),
-        Some(line) => Err(Unfit::OutOfBounds(line)),
+        Some(line) => Err(Refusal::OutOfBounds(line)),
     }
 }

@@ -17,7 +17,7 @@ use Rattle.reason.specs.declared.detail.RegisterDetail.TheVariants as register
 use Rattle.reason.specs.declared.detail.TimesDetail.{TimesDetail}
 use Rattle.reason.specs.declared.detail.TimesDetail.TheVariants as time
 use Rattle.reason.specs.declared.detail.Detail.{Detail}
-use Rattle.reason.specs.declared.detail.Detail.TheVariants.{GateNumbers, RegisterNumbers, TimeNumbers, Registers, Gates, Gate, Register, Times, Asked, Room}
+use Rattle.reason.specs.declared.detail.Detail.TheVariants.{GateNumbers, RegisterNumbers, TimeNumbers, Registers, Gates, Gate, Register, Times}
 
 -- where each number of a gate, of a register and of the times stands among them
 abbrev pub gate_place : GateColumn → ℕ
@@ -71,5 +71,3 @@ TrueOf gates registers times e (Gates n) = (e ≡ refusal.GateCount) × (n ≡ g
 TrueOf gates registers times e (Gate k x) = TrueOfGate gates registers e k x
 TrueOf gates registers times e (Register r x) = TrueOfRegister gates registers e r x
 TrueOf gates registers times e (Times x) = TrueOfTimes gates registers times e x
-TrueOf gates registers times e (Asked s) = e ≡ refusal.NoSignal s
-TrueOf gates registers times e (Room n) = e ≡ refusal.NoRoom n

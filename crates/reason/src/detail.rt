@@ -19,10 +19,6 @@ pub enum Detail {
     Register(usize, RegisterDetail),
     // What is wrong with the times.
     Times(TimesDetail),
-    // This signal was asked for.
-    Asked(usize),
-    // Room for so many is needed.
-    Room(usize),
 }
 
 // A number that is too large, and which of its gate, its register or the times it is.

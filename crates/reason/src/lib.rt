@@ -158,8 +158,12 @@ pub fn explain(gates: &[u32], registers: &[u32], times: &[u32]) -> Option<Reason
         Refusal::BadDelay(k) => Detail::Gate(k, delay(numbers, k)),
         Refusal::BadRegister(r) => Detail::Register(r, register(numbers, r)),
         Refusal::BadOutput => Detail::Times(output(numbers)),
-        Refusal::NoSignal(s) => Detail::Asked(s),
-        Refusal::NoRoom(n) => Detail::Room(n),
+        // Of what is asked for, of lent room, or of the bench: never of a circuit's numbers.
+        Refusal::NoSignal(_)
+        | Refusal::NoRoom(_)
+        | Refusal::OutOfBounds(_)
+        | Refusal::NoPeriod
+        | Refusal::NoMoment => unreachable!(),
     };
     Some(Reason { refusal, detail })
 }

@@ -66,8 +66,6 @@ impl fmt::Display for Detail {
             Detail::Gate(k, detail) => write!(f, "gate {k}: {detail}"),
             Detail::Register(r, detail) => write!(f, "register {r}: {detail}"),
             Detail::Times(detail) => write!(f, "{detail}"),
-            Detail::Asked(s) => write!(f, "signal {s} is past the circuit"),
-            Detail::Room(n) => write!(f, "room for {n} is needed"),
         }
     }
 }

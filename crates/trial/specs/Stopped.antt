@@ -3,15 +3,15 @@ use Rattle.std.specs.Prelude.{◌≡◌, ℕ, ◌+◌, ◌<◌, ◌⊎◌, List}
 use Rattle.circuit.specs.Lent.{period, setup, output_late}
 use Rattle.script.specs.declared.script.Script.{Script}
 use Rattle.script.specs.Told.{Fits}
-use Rattle.fitting.specs.declared.unfit.Unfit.{Unfit}
-use Rattle.fitting.specs.declared.unfit.Unfit.TheVariants.{NoPeriod, NoMoment}
+use Rattle.circuit.specs.declared.refusal.Refusal.{Refusal}
+use Rattle.circuit.specs.declared.refusal.Refusal.TheVariants.{NoPeriod, NoMoment}
 use Rattle.fitting.specs.Misfit.{Misfit}
 use Rattle.trial.specs.Standing.{ReadyToGo}
 use Rattle.trial.specs.declared.stop.Stop.{Stop}
 use Rattle.trial.specs.declared.stop.Stop.TheVariants.{Refused, Memory}
 
 -- times with which no run is possible, or may not be
-abbrev pub Timeless : (ts : List ℕ) → Unfit → Type 0
+abbrev pub Timeless : (ts : List ℕ) → Refusal → Type 0
 Timeless ts e = ((period ts ≡ 0) × (e ≡ NoPeriod)) ⊎ ((0 < period ts) × (setup ts + output_late ts ≡ 0) × (e ≡ NoMoment))
 
 -- a statement out of its bounds, by the first such line; else times with which no run is possible; else want of memory, with which a run could be made

@@ -12,9 +12,9 @@ ghost use Rattle.trial.specs.Stopped.{Timeless, Stopped};
 
 use crate::room::Room;
 use crate::stop::Stop;
-use circuit::{Circuit, Gate, Register};
+use circuit::{Circuit, Gate, Refusal, Register};
 use clocks::Bench;
-use fitting::{Unfit, fits};
+use fitting::fits;
 use history::History;
 use script::{Choice, Script, chance};
 use std::alloc::{AllocError, Global};
@@ -53,14 +53,14 @@ fn start_bits(bench: Bench<'_>, bits: &mut History)
 }
 
 // That a run is possible: a period takes time, and some moment passes before a register must show what it takes.
-fn look_at_times(circuit: Circuit<'_>) -> Result<(), Unfit>
+fn look_at_times(circuit: Circuit<'_>) -> Result<(), Refusal>
     ensures { MatchResult result (λ _. (0 < period circuit.entry.times.now) × (0 < setup circuit.entry.times.now + output_late circuit.entry.times.now)) (λ e. Timeless circuit.entry.times.now e) }
 {
     if circuit.period() == 0 {
-        return Err(Unfit::NoPeriod);
+        return Err(Refusal::NoPeriod);
     }
     if circuit.output_late() == 0 && circuit.setup() == 0 {
-        return Err(Unfit::NoMoment);
+        return Err(Refusal::NoMoment);
     }
     Ok(())
 }

@@ -2,13 +2,13 @@
 ghost use Rattle.std.specs.Prelude.{◌≡◌};
 ghost use Rattle.trial.specs.declared.stop.Stop.TheVariants.{Memory, Refused};
 
-use fitting::Unfit;
+use circuit::Refusal;
 use std::alloc::AllocError;
 
 #[derive(Clone, Copy)]
 pub enum Stop {
     // A circuit or a script is turned away.
-    Refused(Unfit),
+    Refused(Refusal),
     // Memory is short.
     Memory,
 }
@@ -21,10 +21,10 @@ impl From<AllocError> for Stop {
     }
 }
 
-impl From<Unfit> for Stop {
+impl From<Refusal> for Stop {
     ghost from_gives = { λ r e. e ≡ Refused r };
 
-    fn from(r: Unfit) -> Stop {
+    fn from(r: Refusal) -> Stop {
         Stop::Refused(r)
     }
 }

@@ -2,7 +2,6 @@
 use crate::arrival_trials::{COUNTER, INVERTER, ONE, TWO, checked};
 use circuit::{Circuit, Refusal};
 use clocks::Bench;
-use fitting::Unfit;
 use script::{Entry, Kind, Script};
 use std::alloc::{AllocError, Global};
 use std::test::Fail;
@@ -89,7 +88,7 @@ fn too_late_goes_wrong(rt: HostRuntime) -> Result<(), Fail> {
 }
 
 // Why the inverter with these times is not let go with this statement.
-fn refused(rt: &HostRuntime, times: &[u32], kind: Kind, e: Entry) -> Result<Option<Unfit>, Fail> {
+fn refused(rt: &HostRuntime, times: &[u32], kind: Kind, e: Entry) -> Result<Option<Refusal>, Fail> {
     let circuit = inverter(times)?;
     let mut script = Script::new(rt.alloc());
     script.push(kind, e)?;
@@ -98,16 +97,16 @@ fn refused(rt: &HostRuntime, times: &[u32], kind: Kind, e: Entry) -> Result<Opti
         script: &script,
     };
     match prepare(rt.alloc(), bench) {
-        Err(Stop::Refused(unfit)) => Ok(Some(unfit)),
+        Err(Stop::Refused(refusal)) => Ok(Some(refusal)),
         _ => Ok(None),
     }
 }
 
 // What is out of bounds is turned away by its line, and times with which no run is possible after that.
 #[test]
-fn unfit(rt: HostRuntime) -> Result<(), Fail> {
+fn refusal(rt: HostRuntime) -> Result<(), Fail> {
     let times = [20, 2, 4, 3, 1];
-    let line = Some(Unfit::OutOfBounds(3));
+    let line = Some(Refusal::OutOfBounds(3));
     assert_eq!(rt; refused(&rt, &times, Kind::Delay, entry(0, 8, 9))?, line);
     assert_eq!(rt; refused(&rt, &times, Kind::Delay, entry(0, 2, 3))?, line);
     assert_eq!(rt; refused(&rt, &times, Kind::Clock, entry(1, 3, 0))?, line);
@@ -119,12 +118,12 @@ fn unfit(rt: HostRuntime) -> Result<(), Fail> {
     );
     assert_eq!(rt;
         refused(&rt, &no_period, Kind::Show, entry(0, 1, 0))?,
-        Some(Unfit::NoPeriod)
+        Some(Refusal::NoPeriod)
     );
     let no_moment = [20, 0, 0, 0, 1];
     assert_eq!(rt;
         refused(&rt, &no_moment, Kind::Show, entry(0, 1, 0))?,
-        Some(Unfit::NoMoment)
+        Some(Refusal::NoMoment)
     );
     Ok(())
 }
