@@ -8,9 +8,18 @@ use Rattle.promise.specs.Promise.{AsDrawn}
 abbrev pub machine_of : Drafted → Machine
 machine_of d = machine_in d.gates d.registers d.times
 
--- every line has its count of numbers, the numbers are a circuit, and both sums are right at every register
+-- every line has its count of numbers, and the numbers are a circuit
+abbrev pub Taken : Drafted → Type 0
+Taken d = (d.miscount ≡ None) × Whole d.gates d.registers d.times
+
+-- b says whether it is turned away
+abbrev pub TurnedAwayIf : Drafted → Bool → Type 0
+TurnedAwayIf d true = Taken d → ⊥
+TurnedAwayIf d false = Taken d
+
+-- it is taken, and both sums are right at every register
 abbrev pub Fit : Drafted → Type 0
-Fit d = (d.miscount ≡ None) × Whole d.gates d.registers d.times × Passed (machine_of d)
+Fit d = Taken d × Passed (machine_of d)
 
 -- b says whether it is passed; if it is, every run of it holds the drawing's bits
 abbrev pub PassedIf : Drafted → Bool → Type 0

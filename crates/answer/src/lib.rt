@@ -1,9 +1,9 @@
 // What is said of a circuit that was read.
 #![tactic(auto)]
 
-ghost use Rattle.std.specs.Prelude.{◌≡◌, IfOk, None};
+ghost use Rattle.std.specs.Prelude.{◌≡◌, IfOk, is_some};
 ghost use Rattle.text.specs.Meaning.{drafted};
-ghost use Rattle.answer.specs.Said.{PassedIf};
+ghost use Rattle.answer.specs.Said.{PassedIf, Taken, TurnedAwayIf};
 
 use circuit::{MOST_GATES, Refusal};
 use reason::{Detail, Reason};
@@ -48,30 +48,40 @@ impl Source<'_> {
         line.unwrap_or(self.draft.line).saturating_add(self.before)
     }
 
-    // The refusal that applies, in detail and with a line; or want of room.
-    fn put_refusal(self, out: &mut String, refusal: Refusal) -> fmt::Result {
-        let draft = self.draft;
-        match reason::explain(&draft.gates, &draft.registers, &draft.times) {
-            Some(
-                Reason {
-                    refusal,
-                    detail: why,
-                },
-            ) => {
-                let line = self.line_of(why);
-                writeln!(out, "{} (line {line})", TurnedAway { refusal, why })?;
-            }
-            None => {
-                let why = "room is too short";
-                writeln!(out, "{}", TurnedAway { refusal, why })?;
-            }
-        }
+    // A refusal in detail and with its line.
+    fn put_reason(self, out: &mut String, reason: Reason) -> fmt::Result {
+        let line = self.line_of(reason.detail);
+        let refused = TurnedAway {
+            refusal: reason.refusal,
+            why: reason.detail,
+        };
+        writeln!(out, "{refused} (line {line})")?;
         Ok(())
     }
 
-    // The word on a circuit whose lines all have their count of numbers, put behind its name.
+    // The line on which a circuit is turned away, put behind its name; false where its numbers are one.
+    fn put_refusal(self, out: &mut String) -> Result<bool, fmt::Error>
+        ensures { IfOk result (λ refused. TurnedAwayIf (drafted self.entry.draft.now) refused) }
+    {
+        let draft = self.draft;
+        if let Some(miscount) = draft.miscount {
+            let number = miscount.line.saturating_add(self.before);
+            let refused = TurnedAway::miscounted(miscount.part);
+            writeln!(out, "{refused} (line {number})")?;
+            return Ok(true);
+        }
+        match reason::explain(&draft.gates, &draft.registers, &draft.times) {
+            Some(reason) => {
+                self.put_reason(out, reason)?;
+                Ok(true)
+            }
+            None => Ok(false),
+        }
+    }
+
+    // The word on a circuit that is not turned away, put behind its name.
     fn judge(self, mut line: String) -> Result<Said, fmt::Error>
-        requires { self.draft.now.miscount ≡ None }
+        requires { Taken (drafted self.draft.now) }
         ensures { IfOk result (λ a. PassedIf (drafted self.entry.draft.now) a.passed) }
     {
         let draft = self.draft;
@@ -85,7 +95,11 @@ impl Source<'_> {
             }
             Ok(Verdict::TooLate(miss)) => writeln!(line, "too late {}", Missed { miss, room })?,
             Ok(Verdict::TooEarly(miss)) => writeln!(line, "too early {}", Missed { miss, room })?,
-            Err(refusal) => self.put_refusal(&mut line, refusal)?,
+            // All that is left to refuse is the room.
+            Err(refusal) => {
+                let why = "room is too short";
+                writeln!(line, "{}", TurnedAway { refusal, why })?;
+            }
         }
         Ok(Said {
             line,
@@ -100,19 +114,36 @@ pub fn answer(heap: Global, draft: &Draft, text: &[u8], before: usize) -> Result
 {
     let mut line = String::new(heap);
     write!(line, "{}", Title(&draft.name))?;
-    if let Some(miscount) = draft.miscount {
-        let number = miscount.line.saturating_add(before);
-        let refused = TurnedAway::miscounted(miscount.part);
-        writeln!(line, "{refused} (line {number})")?;
+    let source = Source {
+        draft,
+        text,
+        before,
+    };
+    if source.put_refusal(&mut line)? {
         return Ok(Said {
             line,
             passed: false,
         });
     }
-    Source {
+    source.judge(line)
+}
+
+// The line on which a circuit that was read is turned away, None where it is not; the rest is as for `answer`.
+pub fn turned_away(
+    heap: Global,
+    draft: &Draft,
+    text: &[u8],
+    before: usize,
+) -> Result<Option<String>, fmt::Error>
+    ensures { IfOk result (λ line. TurnedAwayIf (drafted draft.now) (is_some line)) }
+{
+    let mut line = String::new(heap);
+    write!(line, "{}", Title(&draft.name))?;
+    let source = Source {
         draft,
         text,
         before,
-    }
-    .judge(line)
+    };
+    let refused = source.put_refusal(&mut line)?;
+    Ok(refused.then_some(line))
 }

@@ -4,4 +4,4 @@ pub returns-in-Ok-Passed : goal.returns-in-Ok-Passed
 returns-in-Ok-Passed c =
     let passed = rw c.in-Ok-Passed.is at c.in-Ok-Passed.field-0-is in
     let s = rw (c.deref.ensures.value, c.deref-2.ensures.value, c.deref-3.ensures.value, c.in-Ok-Passed.is, passed) at c.pass-verdict.ensures in
-    ((c.requires, s.0, s.1.0), s.1.1)
+    ((c.requires, s.1.0), s.1.1)
