@@ -4,10 +4,9 @@
 use answer::Said;
 use command::Command;
 use fields::Fault;
-use std::fs::Files;
-use std::io::Read;
 use std::process::ExitCode;
-use std::{fmt, fs, io};
+use std::rt::Files;
+use std::{fmt, io};
 
 mod command;
 
@@ -89,15 +88,6 @@ impl fmt::Display for Flaw {
     }
 }
 
-fn read_all(rt: &(impl Files + Input + AllocGlobal), path: &str) -> io::Result<Vec<u8>> {
-    if path == "-" {
-        let mut bytes = Vec::new(rt.alloc());
-        rt.reader().read_to_end(&mut bytes)?;
-        return Ok(bytes);
-    }
-    fs::read(rt, path)
-}
-
 // Writes out what was collected.
 fn flush(rt: &impl Print, out: &mut String) -> io::Result<()> {
     rt.write_all(out.as_bytes())?;
@@ -142,7 +132,7 @@ fn pass_file(
     rt: &(impl Files + Input + Print + Eprint + AllocGlobal),
     path: &str,
 ) -> anyhow::Result<Outcome> {
-    let outcome = match read_all(rt, path) {
+    let outcome = match input::read_all(rt, path) {
         Ok(bytes) => pass_text(rt, &bytes)?,
         Err(e) => Err(Flaw::Unreadable(e)),
     };

@@ -1,0 +1,100 @@
+// What is printed of a run.
+use std::fmt;
+use std::fmt::Write;
+
+fn digit(bit: bool) -> char {
+    if bit { '1' } else { '0' }
+}
+
+// A cycle: its number, the registers' bits, and whether they are as drawn, or else each that is not.
+#[derive(Clone, Copy)]
+pub(crate) struct Cycle<'a> {
+    pub(crate) number: u64,
+    pub(crate) held: &'a [bool],
+    pub(crate) drawn: &'a [bool],
+}
+
+impl fmt::Display for Cycle<'_> {
+    fn fmt<W: fmt::Write>(&self, f: &mut fmt::Formatter<W>) -> fmt::Result {
+        write!(f, "{}: ", self.number)?;
+        for bit in self.held {
+            f.write_char(digit(*bit))?;
+        }
+        if self.held == self.drawn {
+            return f.write_str(", as drawn");
+        }
+        for (r, (held, drawn)) in self.held.iter().zip(self.drawn).enumerate() {
+            if held != drawn {
+                let (is, should) = (digit(*held), digit(*drawn));
+                write!(f, ", register {r} is {is} and drawn {should}")?;
+            }
+        }
+        Ok(())
+    }
+}
+
+// Where a run was first seen to differ from the drawing.
+#[derive(Clone, Copy)]
+pub(crate) struct Difference {
+    pub(crate) cycle: u64,
+    pub(crate) register: usize,
+}
+
+impl fmt::Display for Difference {
+    fn fmt<W: fmt::Write>(&self, f: &mut fmt::Formatter<W>) -> fmt::Result {
+        write!(f, "in cycle {} at register {}", self.cycle, self.register)
+    }
+}
+
+// A number of things of one name.
+#[derive(Clone, Copy)]
+struct Count(u64, &'static str);
+
+impl fmt::Display for Count {
+    fn fmt<W: fmt::Write>(&self, f: &mut fmt::Formatter<W>) -> fmt::Result {
+        let Count(n, name) = *self;
+        let plural = if n == 1 { "" } else { "s" };
+        write!(f, "{n} {name}{plural}")
+    }
+}
+
+// A run of so many cycles, which differs there.
+#[derive(Clone, Copy)]
+pub(crate) struct Found {
+    pub(crate) cycles: u64,
+    pub(crate) first: Option<Difference>,
+}
+
+impl fmt::Display for Found {
+    fn fmt<W: fmt::Write>(&self, f: &mut fmt::Formatter<W>) -> fmt::Result {
+        let cycles = Count(self.cycles, "cycle");
+        match self.first {
+            None => write!(f, "{cycles}, as drawn"),
+            Some(difference) => write!(f, "{cycles}, not as drawn: first {difference}"),
+        }
+    }
+}
+
+// Runs of so many cycles, of which some differ: the first of these is the one from this number, and differs there.
+#[derive(Clone, Copy)]
+pub(crate) struct Tried {
+    pub(crate) runs: u32,
+    pub(crate) cycles: u64,
+    pub(crate) wrong: u32,
+    pub(crate) first: Option<(u64, Difference)>,
+}
+
+impl fmt::Display for Tried {
+    fn fmt<W: fmt::Write>(&self, f: &mut fmt::Formatter<W>) -> fmt::Result {
+        let runs = Count(u64::from(self.runs), "run");
+        let cycles = Count(self.cycles, "cycle");
+        match self.first {
+            None => write!(f, "{runs} of {cycles}, as drawn"),
+            Some((seed, difference)) => write!(
+                f,
+                "{runs} of {cycles}, {} not as drawn: first with random {seed}, {difference}",
+                self.wrong
+            ),
+        }
+    }
+}

@@ -1,0 +1,16 @@
+// What a program reads: files, or standard input.
+#![tactic(auto)]
+
+use std::io::Read;
+use std::rt::Files;
+use std::{fs, io};
+
+// All bytes of a file, or of standard input where its name is `-`.
+pub fn read_all(rt: &(impl Files + Input + AllocGlobal), path: &str) -> io::Result<Vec<u8>> {
+    if path == "-" {
+        let mut bytes = Vec::new(rt.alloc());
+        rt.reader().read_to_end(&mut bytes)?;
+        return Ok(bytes);
+    }
+    fs::read(rt, path)
+}

@@ -1,0 +1,155 @@
+// Why what is told on a line does not fit a circuit: the bounds that it is out of.
+#![tactic(auto)]
+
+ghost use Rattle.std.specs.Prelude.{◌≡◌, ℕ, ◌<◌, ◌≤◌, length, Some, None, MatchOption};
+ghost use Rattle.circuit.specs.Checked.{of};
+ghost use Rattle.script.specs.Entries.{entry};
+ghost use Rattle.script.specs.Told.{DelayFits};
+ghost use Rattle.fitting.specs.Misfit.{ClockWithin};
+ghost use Rattle.misfit.specs.Outside.{Out, DelayOutside, ClockOutside, WithinOn, Outside};
+
+use circuit::{Circuit, Gate, Register};
+use reason::Input;
+use script::{Entry, Script};
+
+mod bounded;
+mod wording;
+
+pub use bounded::Bounded;
+
+// A delay or a clock that is out of its bounds.
+#[derive(Clone, Copy)]
+pub enum Misfit {
+    // A delay of a signal that is no gate's: those of gates begin at `first`, and end before `end`.
+    NoGate {
+        first: usize,
+        end: usize,
+    },
+    // The delay of an input of the gate with this signal.
+    Delay {
+        signal: usize,
+        input: Input,
+        bounded: Bounded,
+    },
+    // A clock of a register that is not there: there are so many.
+    NoRegister(usize),
+    // When the clock comes to this register, in its cycle.
+    Clock {
+        register: usize,
+        bounded: Bounded,
+    },
+}
+
+// A number with its bounds, if it is out of them.
+fn outside(told: u32, least: u32, greatest: u32) -> Option<Bounded>
+    ensures { MatchOption result ((least ≤ told) × (told ≤ greatest)) (λ b. Out b told least greatest) }
+{
+    let bounded = Bounded {
+        told,
+        least,
+        greatest,
+    };
+    if (least..=greatest).contains(&told) {
+        None
+    } else {
+        Some(bounded)
+    }
+}
+
+// What a told delay is out of.
+fn delay_misfit(circuit: Circuit<'_>, script: &Script, e: Entry) -> Option<Misfit>
+    ensures { MatchOption result
+        (of circuit.entry (DelayFits script.now) e)
+        (λ w. of circuit.entry (DelayOutside script.now) e w) }
+{
+    let first = circuit.register_count();
+    let k = e.who as usize;
+    let Some(numbers) = circuit.gates().get(k) else {
+        let end = circuit.signal_count();
+        return Some(Misfit::NoGate { first, end });
+    };
+    let gate = Gate::from(*numbers);
+    let signal = first + k;
+    if let Some(bounded) = outside(e.one, gate.least_one, gate.greatest_one) {
+        let input = Input::First;
+        return Some(Misfit::Delay {
+            signal,
+            input,
+            bounded,
+        });
+    }
+    let bounded = outside(e.two, gate.least_two, gate.greatest_two)?;
+    let input = Input::Second;
+    Some(Misfit::Delay {
+        signal,
+        input,
+        bounded,
+    })
+}
+
+// What a told clock is out of.
+fn clock_misfit(circuit: Circuit<'_>, script: &Script, e: Entry) -> Option<Misfit>
+    ensures { MatchOption result
+        (ClockWithin circuit.entry.registers.now e)
+        (λ w. of circuit.entry (ClockOutside script.now) e w) }
+{
+    let register = e.who as usize;
+    let Some(numbers) = circuit.registers().get(register) else {
+        return Some(Misfit::NoRegister(circuit.register_count()));
+    };
+    let times = Register::from(*numbers);
+    let bounded = outside(e.one, times.early, times.late)?;
+    Some(Misfit::Clock { register, bounded })
+}
+
+// The first misfit among the statements on a line.
+fn first_on<F: Fn(Entry) -> Option<Misfit>>(
+    entries: &[Entry],
+    line: usize,
+    misfit: F,
+) -> Option<Misfit>
+    requires { F.IsAlwaysCallable misfit }
+    ensures { MatchOption result
+        ((i : ℕ) → i < length entries.now → (entry entries.now i).line ≡ line → F.post misfit (entry entries.now i) None)
+        (λ w. (i : ℕ) × (i < length entries.now) × ((entry entries.now i).line ≡ line) × F.post misfit (entry entries.now i) (Some w)) }
+{
+    for e in entries {
+        if e.line == line {
+            if let Some(found) = misfit(*e) {
+                return Some(found);
+            }
+        }
+    }
+    None
+}
+
+// What is out of its bounds on a line; None where all that is told there is within them.
+pub fn explain(circuit: Circuit<'_>, script: &Script, line: usize) -> Option<Misfit>
+    ensures { MatchOption result
+        (of circuit.entry (WithinOn script.now) line)
+        (λ w. of circuit.entry (Outside script.now) line w) }
+{
+    let delays = script.delays.as_slice();
+    let delay = first_on(
+        delays,
+        line,
+        |e: Entry|
+            ensures { MatchOption result
+                (of circuit.entry (DelayFits script.entry.now) e)
+                (λ w. of circuit.entry (DelayOutside script.entry.now) e w) }
+        { delay_misfit(circuit, script, e) },
+    );
+    if let Some(found) = delay {
+        return Some(found);
+    }
+    let clocks = script.clocks.as_slice();
+    first_on(
+        clocks,
+        line,
+        |e: Entry|
+            ensures { MatchOption result
+                (ClockWithin circuit.entry.registers.now e)
+                (λ w. of circuit.entry (ClockOutside script.entry.now) e w) }
+        { clock_misfit(circuit, script, e) },
+    )
+}
