@@ -12,7 +12,8 @@ use std::alloc::Global;
 use std::fmt;
 use std::fmt::Write;
 use text::Draft;
-use wording::{Missed, Title, TurnedAway};
+use wording::Missed;
+pub use wording::{Title, TurnedAway};
 
 mod wording;
 

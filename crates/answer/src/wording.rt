@@ -7,7 +7,7 @@ use text::Part;
 
 // A name and a colon, where there is a name. Its bytes are ASCII, so from_utf8 would add a case that cannot be.
 #[derive(Clone, Copy)]
-pub(crate) struct Title<'a>(pub(crate) &'a [u8]);
+pub struct Title<'a>(pub &'a [u8]);
 
 impl fmt::Display for Title<'_> {
     fn fmt<W: fmt::Write>(&self, f: &mut fmt::Formatter<W>) -> fmt::Result {
@@ -23,9 +23,9 @@ impl fmt::Display for Title<'_> {
 
 // A refusal, and why it applies.
 #[derive(Clone, Copy)]
-pub(crate) struct TurnedAway<D> {
-    pub(crate) refusal: Refusal,
-    pub(crate) why: D,
+pub struct TurnedAway<D> {
+    pub refusal: Refusal,
+    pub why: D,
 }
 
 impl TurnedAway<&'static str> {

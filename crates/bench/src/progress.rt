@@ -1,4 +1,5 @@
 // How far a long run is, told on standard error.
+use std::fmt;
 use std::io;
 use std::time::Instant;
 
@@ -8,11 +9,29 @@ const BETWEEN: u32 = 256;
 // Seconds between two lines that tell it.
 const EACH: u64 = 1;
 
-// When it was told last, or when the run began; nothing where it is not to be told.
+// A run of several: which, and of how many.
+#[derive(Clone, Copy)]
+pub(crate) struct OneOf(pub(crate) u32, pub(crate) u32);
+
+// What stands before the cycles.
+#[derive(Clone, Copy)]
+struct Which(Option<OneOf>);
+
+impl fmt::Display for Which {
+    fn fmt<W: fmt::Write>(&self, f: &mut fmt::Formatter<W>) -> fmt::Result {
+        match self.0 {
+            None => Ok(()),
+            Some(OneOf(run, runs)) => write!(f, "run {run} of {runs}, "),
+        }
+    }
+}
+
+// When it was told last, or when the first run began; nothing where it is not to be told.
 #[derive(Clone, Copy)]
 pub(crate) struct Progress {
     since: Option<Instant>,
     moments: u32,
+    pub(crate) run: Option<OneOf>,
 }
 
 impl Progress {
@@ -22,11 +41,15 @@ impl Progress {
         } else {
             Some(Instant::now(rt)?)
         };
-        Ok(Progress { since, moments: 0 })
+        Ok(Progress {
+            since,
+            moments: 0,
+            run: None,
+        })
     }
 
-    // One moment more: whether it is time to tell how far the run is.
-    pub(crate) fn is_due(&mut self, rt: &HostRuntime) -> io::Result<bool> {
+    // Whether it is time to tell it, one moment later.
+    fn is_due(&mut self, rt: &HostRuntime) -> io::Result<bool> {
         let Some(since) = self.since else {
             return Ok(false);
         };
@@ -36,5 +59,14 @@ impl Progress {
         }
         self.since = Some(Instant::now(rt)?);
         Ok(true)
+    }
+
+    // One moment more, with so many cycles done.
+    pub(crate) fn moment(&mut self, rt: &HostRuntime, done: u64, cycles: u32) -> io::Result<()> {
+        if self.is_due(rt)? {
+            let run = Which(self.run);
+            eprintln!(rt; "bench: {run}{done} of {cycles} cycles")?;
+        }
+        Ok(())
     }
 }

@@ -1,4 +1,7 @@
 // What is printed of a run.
+use circuit::Refusal;
+use clocks::Bench;
+use misfit::Misfit;
 use std::fmt;
 use std::fmt::Write;
 
@@ -9,7 +12,7 @@ fn digit(bit: bool) -> char {
 // A cycle: its number, the registers' bits, and whether they are as drawn, or else each that is not.
 #[derive(Clone, Copy)]
 pub(crate) struct Cycle<'a> {
-    pub(crate) number: u64,
+    pub(crate) number: u32,
     pub(crate) held: &'a [bool],
     pub(crate) drawn: &'a [bool],
 }
@@ -36,7 +39,7 @@ impl fmt::Display for Cycle<'_> {
 // Where a run was first seen to differ from the drawing.
 #[derive(Clone, Copy)]
 pub(crate) struct Difference {
-    pub(crate) cycle: u64,
+    pub(crate) cycle: u32,
     pub(crate) register: usize,
 }
 
@@ -48,7 +51,7 @@ impl fmt::Display for Difference {
 
 // A number of things of one name.
 #[derive(Clone, Copy)]
-struct Count(u64, &'static str);
+struct Count(u32, &'static str);
 
 impl fmt::Display for Count {
     fn fmt<W: fmt::Write>(&self, f: &mut fmt::Formatter<W>) -> fmt::Result {
@@ -61,7 +64,7 @@ impl fmt::Display for Count {
 // A run of so many cycles, which differs there.
 #[derive(Clone, Copy)]
 pub(crate) struct Found {
-    pub(crate) cycles: u64,
+    pub(crate) cycles: u32,
     pub(crate) first: Option<Difference>,
 }
 
@@ -79,14 +82,14 @@ impl fmt::Display for Found {
 #[derive(Clone, Copy)]
 pub(crate) struct Tried {
     pub(crate) runs: u32,
-    pub(crate) cycles: u64,
+    pub(crate) cycles: u32,
     pub(crate) wrong: u32,
     pub(crate) first: Option<(u64, Difference)>,
 }
 
 impl fmt::Display for Tried {
     fn fmt<W: fmt::Write>(&self, f: &mut fmt::Formatter<W>) -> fmt::Result {
-        let runs = Count(u64::from(self.runs), "run");
+        let runs = Count(self.runs, "run");
         let cycles = Count(self.cycles, "cycle");
         match self.first {
             None => write!(f, "{runs} of {cycles}, as drawn"),
@@ -95,6 +98,65 @@ impl fmt::Display for Tried {
                 "{runs} of {cycles}, {} not as drawn: first with random {seed}, {difference}",
                 self.wrong
             ),
+        }
+    }
+}
+
+// What a run, or some, came to.
+#[derive(Clone, Copy)]
+pub(crate) enum Ended {
+    Run(Found),
+    Runs(Tried),
+}
+
+impl Ended {
+    // Whether some register was not as drawn.
+    pub(crate) fn differs(self) -> bool {
+        match self {
+            Ended::Run(found) => found.first.is_some(),
+            Ended::Runs(tried) => tried.first.is_some(),
+        }
+    }
+}
+
+impl fmt::Display for Ended {
+    fn fmt<W: fmt::Write>(&self, f: &mut fmt::Formatter<W>) -> fmt::Result {
+        match self {
+            Ended::Run(found) => write!(f, "{found}"),
+            Ended::Runs(tried) => write!(f, "{tried}"),
+        }
+    }
+}
+
+// Why a circuit does not go with what it is told.
+#[derive(Clone, Copy)]
+pub(crate) enum Why {
+    // What is out of its bounds on a line, counted from 0; a clock within them does not come after the one before it.
+    Line(usize, Option<Misfit>),
+    Period,
+    Moment,
+}
+
+impl Why {
+    pub(crate) fn of(bench: Bench<'_>, refusal: Refusal) -> Why {
+        match refusal {
+            Refusal::NoPeriod => Why::Period,
+            Refusal::NoMoment => Why::Moment,
+            _ => {
+                let line = refusal.place();
+                Why::Line(line, misfit::explain(bench.circuit, bench.script, line))
+            }
+        }
+    }
+}
+
+impl fmt::Display for Why {
+    fn fmt<W: fmt::Write>(&self, f: &mut fmt::Formatter<W>) -> fmt::Result {
+        match self {
+            Why::Line(_, Some(misfit)) => write!(f, "{misfit}"),
+            Why::Line(_, None) => f.write_str("this clock does not come after the one before it"),
+            Why::Period => f.write_str("with a period of 0 no run is possible"),
+            Why::Moment => f.write_str("with a setup and a latest output time of 0 a run may not be possible"),
         }
     }
 }

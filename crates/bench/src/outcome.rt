@@ -1,0 +1,34 @@
+// What was found, and the status that goes with it.
+use std::process::ExitCode;
+
+// From best to worst.
+#[derive(Clone, Copy, PartialEq, Debug)]
+pub(crate) enum Outcome {
+    // Every register was as drawn after every cycle.
+    AsDrawn,
+    // Some register was not.
+    NotAsDrawn,
+    // The circuit, or what is told to it, is turned away.
+    TurnedAway,
+    // A file cannot be used.
+    Unsound,
+}
+
+impl Outcome {
+    // What a run came to, by whether some register was not as drawn.
+    pub(crate) fn of_run(differs: bool) -> Outcome {
+        if differs {
+            Outcome::NotAsDrawn
+        } else {
+            Outcome::AsDrawn
+        }
+    }
+
+    pub(crate) fn status(self, exit_zero: bool) -> ExitCode {
+        match self {
+            Outcome::AsDrawn => ExitCode::SUCCESS,
+            Outcome::NotAsDrawn | Outcome::TurnedAway if exit_zero => ExitCode::SUCCESS,
+            _ => ExitCode::FAILURE,
+        }
+    }
+}
