@@ -78,20 +78,27 @@ impl Arguments {
 
     // What is asked for, where the two files are named.
     fn command(self) -> Command {
-        if let Some(asked) = self.asked {
+        let Arguments {
+            asked,
+            mut names,
+            vcd,
+            trials,
+            quiet,
+            exit_zero,
+        } = self;
+        if let Some(asked) = asked {
             return asked;
         }
-        let mut names = self.names;
         let (Some(delays), Some(circuit), None) = (names.pop(), names.pop(), names.pop()) else {
             return Command::Usage;
         };
         Command::Bench(Task {
             circuit,
             delays,
-            vcd: self.vcd,
-            trials: self.trials,
-            quiet: self.quiet,
-            exit_zero: self.exit_zero,
+            vcd,
+            trials,
+            quiet,
+            exit_zero,
         })
     }
 }

@@ -60,7 +60,7 @@ pub(crate) fn read_circuit(rt: &HostRuntime, path: &str) -> Result<Source, Flaw>
 
 fn read_one(rt: &HostRuntime, bytes: &[u8]) -> Result<Draft, Flaw> {
     let read = text::read(rt.alloc(), bytes)?.ok_or(Flaw::NoCircuit)?;
-    let before = read.rest.number - 1;
+    let before = read.rest.number.saturating_sub(1);
     match text::read(rt.alloc(), read.rest.text) {
         Ok(None) => Ok(read.draft),
         Ok(Some(more)) => Err(Flaw::MoreCircuits(more.draft.line.saturating_add(before))),

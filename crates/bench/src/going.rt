@@ -7,7 +7,7 @@ use anyhow::anyhow;
 use circuit::{Circuit, Refusal};
 use clocks::Bench;
 use script::Script;
-use std::fs;
+use std::{fs, io};
 use trial::Stop;
 use watch::Watch;
 
@@ -28,42 +28,46 @@ impl From<Stop> for Halt {
     }
 }
 
+impl From<io::Error> for Halt {
+    fn from(e: io::Error) -> Halt {
+        Halt::Failed(e.into())
+    }
+}
+
 impl From<anyhow::Error> for Halt {
     fn from(e: anyhow::Error) -> Halt {
         Halt::Failed(e)
     }
 }
 
-// A run that is being made, and the dump that is written of it.
+// What goes on beside a run: a dump that is written of it, and what is told of how far it is.
 #[derive(Drop)]
-struct Run<'a> {
-    bench: Bench<'a>,
-    watch: Watch<'a>,
+struct Beside {
     dump: Option<Dump>,
+    progress: Progress,
 }
 
-impl Run<'_> {
-    // To the end of cycle `number`, the next one: the first register that is not as drawn.
-    fn cycle(
-        &mut self,
-        rt: &HostRuntime,
-        progress: &mut Progress,
-        number: u32,
-    ) -> anyhow::Result<Option<Difference>> {
-        while self.watch.step() {
-            let trial = self.watch.trial();
-            if let Some(dump) = &mut self.dump {
-                dump.moment(self.bench, trial)?;
-            }
-            progress.moment(rt, trial.done(), self.bench.script.cycles)?;
+// To the end of cycle `number`, the next one: the first register that is not as drawn.
+fn go_on(
+    rt: &HostRuntime,
+    bench: Bench<'_>,
+    watch: &mut Watch<'_>,
+    beside: &mut Beside,
+    number: u32,
+) -> anyhow::Result<Option<Difference>> {
+    while watch.step() {
+        if let Some(dump) = &mut beside.dump {
+            dump.moment(bench, watch.trial())?;
         }
-        self.watch.cycle();
-        let register = self.watch.first_difference();
-        Ok(register.map(|register| Difference {
-            cycle: number,
-            register,
-        }))
+        let done = watch.trial().done();
+        beside.progress.moment(rt, done, bench.script.cycles)?;
     }
+    watch.cycle();
+    let register = watch.first_difference();
+    Ok(register.map(|register| Difference {
+        cycle: number,
+        register,
+    }))
 }
 
 // The dump that is asked for, begun.
@@ -71,34 +75,30 @@ fn dump_for(rt: &HostRuntime, task: &Task, bench: Bench<'_>) -> anyhow::Result<O
     let Some(path) = &task.vcd else {
         return Ok(None);
     };
-    let file = fs::create(rt, path.as_str())
-        .map_err(|e| anyhow!("{path}: {e}"))?;
+    let file = fs::create(rt, path.as_str()).map_err(|e| anyhow!("{path}: {e}"))?;
     Ok(Some(Dump::new(rt, file, bench)?))
 }
 
 // A run, of which each cycle is printed.
 pub(crate) fn print_run(rt: &HostRuntime, task: &Task, bench: Bench<'_>) -> Result<Found, Halt> {
     let cycles = bench.script.cycles;
-    let watch = Watch::prepare(rt.alloc(), bench)?;
-    let dump = dump_for(rt, task, bench)?;
-    let mut progress = Progress::new(rt, task.quiet)?;
-    let mut run = Run {
-        bench,
-        watch,
-        dump,
+    let mut watch = Watch::prepare(rt.alloc(), bench)?;
+    let mut beside = Beside {
+        dump: dump_for(rt, task, bench)?,
+        progress: Progress::new(rt, task.quiet)?,
     };
     let mut first = None;
-    for number in 1..=cycles {
-        first = first.or(run.cycle(rt, &mut progress, number)?);
+    for done in 0..cycles {
+        let number = done + 1;
+        first = first.or(go_on(rt, bench, &mut watch, &mut beside, number)?);
         let cycle = Cycle {
             number,
-            held: run.watch.held(),
-            drawn: run.watch.drawn(),
+            watch: &watch,
         };
         println!(rt; "{cycle}")?;
     }
-    if let Some(dump) = &mut run.dump {
-        dump.finish(run.watch.trial())?;
+    if let Some(dump) = &mut beside.dump {
+        dump.finish(watch.trial())?;
     }
     Ok(Found { cycles, first })
 }
@@ -106,17 +106,12 @@ pub(crate) fn print_run(rt: &HostRuntime, task: &Task, bench: Bench<'_>) -> Resu
 // Where a run first differs from the drawing.
 fn first_difference(
     rt: &HostRuntime,
-    progress: &mut Progress,
+    beside: &mut Beside,
     bench: Bench<'_>,
 ) -> Result<Option<Difference>, Halt> {
-    let watch = Watch::prepare(rt.alloc(), bench)?;
-    let mut run = Run {
-        bench,
-        watch,
-        dump: None,
-    };
-    for number in 1..=bench.script.cycles {
-        let difference = run.cycle(rt, progress, number)?;
+    let mut watch = Watch::prepare(rt.alloc(), bench)?;
+    for done in 0..bench.script.cycles {
+        let difference = go_on(rt, bench, &mut watch, beside, done + 1)?;
         if difference.is_some() {
             return Ok(difference);
         }
@@ -133,7 +128,10 @@ pub(crate) fn try_runs(
     runs: u32,
 ) -> Result<Tried, Halt> {
     let from = script.seed.unwrap_or(0);
-    let mut progress = Progress::new(rt, task.quiet)?;
+    let mut beside = Beside {
+        dump: None,
+        progress: Progress::new(rt, task.quiet)?,
+    };
     let mut tried = Tried {
         runs,
         cycles: script.cycles,
@@ -143,8 +141,8 @@ pub(crate) fn try_runs(
     for i in 0..runs {
         let seed = from.wrapping_add(u64::from(i));
         script.seed = Some(seed);
-        progress.run = Some(OneOf(i + 1, runs));
-        if let Some(difference) = first_difference(rt, &mut progress, Bench { circuit, script })? {
+        beside.progress.run = Some(OneOf(i + 1, runs));
+        if let Some(difference) = first_difference(rt, &mut beside, Bench { circuit, script })? {
             tried.wrong = tried.wrong.saturating_add(1);
             tried.first = tried.first.or(Some((seed, difference)));
         }

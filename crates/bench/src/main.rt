@@ -59,20 +59,43 @@ fn tell(rt: &HostRuntime, path: &str, flaw: &Flaw) -> anyhow::Result<Outcome> {
 }
 
 // The line on which a circuit with what it is told is turned away.
-fn tell_refusal(rt: &HostRuntime, name: &[u8], bench: Bench<'_>, refusal: Refusal) -> anyhow::Result<()> {
+fn tell_refusal(
+    rt: &HostRuntime,
+    name: &[u8],
+    bench: Bench<'_>,
+    refusal: Refusal,
+) -> anyhow::Result<()> {
     let why = Why::of(bench, refusal);
     let refused = TurnedAway { refusal, why };
     match why {
-        Why::Line(line, _) => println!(rt; "{}{refused} (line {})", Title(name), line.saturating_add(1))?,
+        Why::Line(line, _) => println!(rt;
+            "{}{refused} (line {})",
+            Title(name),
+            line.saturating_add(1)
+        )?,
         _ => println!(rt; "{}{refused}", Title(name))?,
     }
     Ok(())
 }
 
 // One run, or as many as are asked for.
-fn go(rt: &HostRuntime, task: &Task, name: &[u8], circuit: Circuit<'_>, mut script: Script) -> anyhow::Result<Outcome> {
+fn go(
+    rt: &HostRuntime,
+    task: &Task,
+    name: &[u8],
+    circuit: Circuit<'_>,
+    mut script: Script,
+) -> anyhow::Result<Outcome> {
     let ended = match task.trials {
-        None => print_run(rt, task, Bench { circuit, script: &script }).map(Ended::Run),
+        None => print_run(
+            rt,
+            task,
+            Bench {
+                circuit,
+                script: &script,
+            },
+        )
+        .map(Ended::Run),
         Some(runs) => try_runs(rt, task, circuit, &mut script, runs).map(Ended::Runs),
     };
     match ended {
@@ -82,7 +105,15 @@ fn go(rt: &HostRuntime, task: &Task, name: &[u8], circuit: Circuit<'_>, mut scri
         }
         Err(Halt::Failed(e)) => Err(e),
         Err(Halt::Refused(refusal)) => {
-            tell_refusal(rt, name, Bench { circuit, script: &script }, refusal)?;
+            tell_refusal(
+                rt,
+                name,
+                Bench {
+                    circuit,
+                    script: &script,
+                },
+                refusal,
+            )?;
             Ok(Outcome::TurnedAway)
         }
     }
@@ -107,7 +138,11 @@ fn bench(rt: &HostRuntime, task: &Task) -> anyhow::Result<Outcome> {
     };
     let path = task.delays.as_str();
     match read_script(rt, path, circuit.register_count()) {
-        Ok(script) if task.trials.is_some() && script.seed.is_none() => tell(rt, path, &Flaw::NoRandom),
+        Ok(script) if task.trials.is_some() && script.seed.is_none() => tell(
+            rt,
+            path,
+            &Flaw::NoRandom,
+        ),
         Ok(script) => go(rt, task, &draft.name, circuit, script),
         Err(flaw) => tell(rt, path, &flaw),
     }

@@ -1,7 +1,6 @@
 // How far a long run is, told on standard error.
-use std::fmt;
-use std::io;
 use std::time::Instant;
+use std::{fmt, io};
 
 // Moments between two looks at the clock.
 const BETWEEN: u32 = 256;
@@ -36,11 +35,7 @@ pub(crate) struct Progress {
 
 impl Progress {
     pub(crate) fn new(rt: &HostRuntime, quiet: bool) -> io::Result<Progress> {
-        let since = if quiet {
-            None
-        } else {
-            Some(Instant::now(rt)?)
-        };
+        let since = if quiet { None } else { Some(Instant::now(rt)?) };
         Ok(Progress {
             since,
             moments: 0,
@@ -53,7 +48,7 @@ impl Progress {
         let Some(since) = self.since else {
             return Ok(false);
         };
-        self.moments = (self.moments + 1) % BETWEEN;
+        self.moments = self.moments.wrapping_add(1) % BETWEEN;
         if self.moments != 0 || since.elapsed(rt)?.as_secs() < EACH {
             return Ok(false);
         }

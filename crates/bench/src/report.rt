@@ -4,6 +4,7 @@ use clocks::Bench;
 use misfit::Misfit;
 use std::fmt;
 use std::fmt::Write;
+use watch::Watch;
 
 fn digit(bit: bool) -> char {
     if bit { '1' } else { '0' }
@@ -11,22 +12,22 @@ fn digit(bit: bool) -> char {
 
 // A cycle: its number, the registers' bits, and whether they are as drawn, or else each that is not.
 #[derive(Clone, Copy)]
-pub(crate) struct Cycle<'a> {
+pub(crate) struct Cycle<'a, 'b> {
     pub(crate) number: u32,
-    pub(crate) held: &'a [bool],
-    pub(crate) drawn: &'a [bool],
+    pub(crate) watch: &'a Watch<'b>,
 }
 
-impl fmt::Display for Cycle<'_> {
+impl fmt::Display for Cycle<'_, '_> {
     fn fmt<W: fmt::Write>(&self, f: &mut fmt::Formatter<W>) -> fmt::Result {
         write!(f, "{}: ", self.number)?;
-        for bit in self.held {
+        let (held, drawn) = (self.watch.held(), self.watch.drawn());
+        for bit in held {
             f.write_char(digit(*bit))?;
         }
-        if self.held == self.drawn {
+        if held == drawn {
             return f.write_str(", as drawn");
         }
-        for (r, (held, drawn)) in self.held.iter().zip(self.drawn).enumerate() {
+        for (r, (held, drawn)) in held.iter().zip(drawn).enumerate() {
             if held != drawn {
                 let (is, should) = (digit(*held), digit(*drawn));
                 write!(f, ", register {r} is {is} and drawn {should}")?;
@@ -156,7 +157,9 @@ impl fmt::Display for Why {
             Why::Line(_, Some(misfit)) => write!(f, "{misfit}"),
             Why::Line(_, None) => f.write_str("this clock does not come after the one before it"),
             Why::Period => f.write_str("with a period of 0 no run is possible"),
-            Why::Moment => f.write_str("with a setup and a latest output time of 0 a run may not be possible"),
+            Why::Moment => f.write_str(
+                "with a setup and a latest output time of 0 a run may not be possible",
+            ),
         }
     }
 }

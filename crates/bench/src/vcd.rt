@@ -115,10 +115,20 @@ impl Dump {
     }
 
     // The changes of a moment that has just gone.
-    fn put_changes(&mut self, bench: Bench<'_>, trial: &Trial<'_>, t: u64) -> Result<(), AllocError> {
+    fn put_changes(
+        &mut self,
+        bench: Bench<'_>,
+        trial: &Trial<'_>,
+        t: u64,
+    ) -> Result<(), AllocError> {
         let registers = self.registers.len();
         for (k, shown) in self.shown.iter_mut().enumerate() {
-            change(&mut self.changes, shown, trial.signal(k), signal(k, registers))?;
+            change(
+                &mut self.changes,
+                shown,
+                trial.signal(k),
+                signal(k, registers),
+            )?;
         }
         for (r, kept) in self.registers.iter_mut().enumerate() {
             if kept.ticks.comes(bench, t) {
