@@ -107,7 +107,7 @@ class Run:
         self.told = told
         gates, registers = told.gates, told.registers
         period, early, late, setup, hold = told.times
-        self.end = (told.cycles + 0) * period + max(r[2] for r in registers) + late + 1
+        self.end = told.cycles * period + max(r[2] for r in registers) + late + 1
         self.waves = [[] for _ in range(len(registers) + len(gates))]
         self.any = [[] for _ in registers]
         self.lost = [[] for _ in registers]
@@ -200,7 +200,7 @@ def check_dump(path, run):
         want["%s%d" % ("r" if k < n else "g", k)] = wave
     for r in range(n):
         want["any_r%d" % r] = [int(b) for b in run.any[r]]
-        events = {"clock_r%d" % r: [t for t in range(run.end) if any(told.clock(c, r) == t for c in range(t + 1))],
+        events = {"clock_r%d" % r: list(itertools.takewhile(lambda t: t < run.end, (told.clock(c, r) for c in itertools.count()))),
                   "lost_r%d" % r: [t for t, b in enumerate(run.lost[r]) if b]}
         for name, moments in events.items():
             assert kinds.pop(name) == "event" and sorted(changes[name]) == moments, (name, sorted(changes[name]), moments)
