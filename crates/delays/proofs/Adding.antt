@@ -1,5 +1,5 @@
 -- A statement that is added to what is told.
-use Rattle.std.proofs.Common.{◌≡◌, ℕ, ◌+◌, ◌<◌, ◌≤◌, Bool, true, false, List, [], ◌∷◌, ◌++◌, length, nat_le, get_or, Ok, Err, Option, sym, refl, ap, ◌∙◌, arith}
+use Rattle.std.proofs.Common.{◌≡◌, ℕ, ◌+◌, ◌<◌, ◌≤◌, Bool, true, false, List, [], ◌∷◌, ◌++◌, length, nat_le, get_or, Ok, Err, Option, refl, ap, arith}
 use Rattle.std.specs.List.{list_all}
 use Rattle.std.proofs.lemmas.List.{length-append, get_or_append_left}
 use Rattle.std.proofs.lemmas.List.Sums.{list_all-from_AllPass}
@@ -12,9 +12,9 @@ use Rattle.script.specs.declared.entry.Entry.{Entry}
 use Rattle.script.specs.declared.kind.Kind.{Kind}
 use Rattle.script.specs.declared.kind.Kind.TheVariants.{Clock, Take, Delay, Show}
 use Rattle.script.specs.declared.script.Script.{Script}
-use Rattle.script.specs.Entries.{no_entry, Ordered, Added}
+use Rattle.script.specs.Entries.{no_entry, Added}
 use Rattle.script.specs.Pushed.{PushAnswer, entries}
-use Rattle.delays.specs.Meaning.{Told, told, added, with_entries, entries as told_entries}
+use Rattle.delays.specs.Meaning.{told, added, with_entries, entries as told_entries}
 
 -- no later than e
 abbrev upto : Entry → Entry → Bool

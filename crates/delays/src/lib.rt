@@ -77,7 +77,13 @@ impl Draft {
 
     // Takes a line, which has this number, counted from 0.
     #[tactic(auto, unfolding(crate::specs::Meaning::statement))]
-    fn statement(&mut self, heap: Global, text: &[u8], at: usize, registers: usize) -> Result<(), Expected>
+    fn statement(
+        &mut self,
+        heap: Global,
+        text: &[u8],
+        at: usize,
+        registers: usize,
+    ) -> Result<(), Expected>
         ensures { Stated (statement registers at (drafted self.old) (words text.now)) (drafted self.new) result }
     {
         let Some((word, rest)) = lines::word(text) else {

@@ -78,7 +78,12 @@ pub(crate) fn entry(text: &[u8], at: usize, line: Line) -> Result<Entry, Expecte
 
 // The same where there has to be such a register, and the value is a bit.
 #[tactic(auto, unfolding(crate::specs::Row::bit_after))]
-pub(crate) fn bit_entry(text: &[u8], at: usize, line: Line, registers: usize) -> Result<Entry, Expected>
+pub(crate) fn bit_entry(
+    text: &[u8],
+    at: usize,
+    line: Line,
+    registers: usize,
+) -> Result<Entry, Expected>
     ensures { result ≡ bit_after registers at line (words text.now) }
 {
     let entry = entry(text, at, line)?;

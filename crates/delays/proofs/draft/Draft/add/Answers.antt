@@ -1,4 +1,4 @@
-use Rattle.std.proofs.Common.{inr, rules}
+use Rattle.std.proofs.Common.{inr}
 use Rattle.delays.proofs.Adding.{pushed, refused}
 use Rattle.delays.proofs.draft.Draft.add.Goals as goal
 

@@ -1,4 +1,4 @@
-use Rattle.std.proofs.Common.{◌≡◌, [], None, refl}
+use Rattle.std.proofs.Common.{◌≡◌, [], refl}
 use Rattle.script.specs.declared.kind.Kind.TheVariants.{Clock, Take, Delay, Show}
 use Rattle.delays.proofs.draft.Draft.new.Goals as goal
 
