@@ -1,5 +1,5 @@
 -- A statement that is added to what is told.
-use Rattle.std.proofs.Common.{◌≡◌, ℕ, ◌+◌, ◌<◌, ◌≤◌, Bool, true, false, List, [], ◌∷◌, ◌++◌, length, nat_le, get_or, Ok, Err, Option, refl, ap, arith}
+use Rattle.std.proofs.Common.{◌≡◌, ℕ, ◌+◌, ◌<◌, ◌≤◌, Bool, true, false, List, [], ◌∷◌, ◌++◌, length, nat_le, get_or, Ok, Err, Option, refl, ap, inr, arith}
 use Rattle.std.specs.List.{list_all}
 use Rattle.std.proofs.lemmas.List.{length-append, get_or_append_left}
 use Rattle.std.proofs.lemmas.List.Sums.{list_all-from_AllPass}
@@ -14,7 +14,7 @@ use Rattle.script.specs.declared.kind.Kind.TheVariants.{Clock, Take, Delay, Show
 use Rattle.script.specs.declared.script.Script.{Script}
 use Rattle.script.specs.Entries.{no_entry, Added}
 use Rattle.script.specs.Pushed.{PushAnswer, entries}
-use Rattle.delays.specs.Meaning.{told, added, with_entries, entries as told_entries}
+use Rattle.delays.specs.Meaning.{told, added, with_entries, entries as told_entries, Stated}
 
 -- no later than e
 abbrev upto : Entry → Entry → Bool
@@ -51,10 +51,10 @@ apart : (other k : Kind) → (place other ≡ place k → ⊥) → other ≡ k �
 apart other k ne e = ne (ap place e)
 
 module _ (c : Option ℕ) (k : Kind) (l : Line) (e : Entry) (s s' : Script) where
-  pub refused : PushAnswer k e s s' false → added (told c s) k l e ≡ Err (NoEarlier l)
-  refused p = rw (same_entries c s k, out_of_order _ _ e p.this) refl
+  pub refused : PushAnswer k e s s' false → Stated (added (told c s) k l e) (told c s') (Err (NoEarlier l))
+  refused p = inr (rw (same_entries c s k, out_of_order _ _ e p.this) refl)
 
-  pub pushed : PushAnswer k e s s' true → added (told c s) k l e ≡ Ok (told c s')
+  pub pushed : PushAnswer k e s s' true → Stated (added (told c s) k l e) (told c s') (Ok (record {}))
   pushed p = rw (same_entries c s k, in_order _ _ e p.this) (ap (λ t. Ok t) (put k p))
     where
       put : (k : Kind) → PushAnswer k e s s' true → with_entries (told c s) k (entries s k ++ (e ∷ [])) ≡ told c s'

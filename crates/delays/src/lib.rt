@@ -4,6 +4,7 @@
 ghost use Rattle.std.specs.Prelude.{◌≡◌, Some, MatchOption};
 ghost use Rattle.lines.specs.Words.{words, lines};
 ghost use Rattle.delays.specs.Meaning.{nothing, drafted, scripted, added, said, statement, meaning, Stated, ToldOnce, IsRead};
+ghost use Rattle.delays.specs.ByLines.{ToldByLines, ToldOfGate};
 
 use draft::Draft;
 use fields::{Expected, Fault, Line};
@@ -118,4 +119,19 @@ pub fn read(heap: Global, text: &[u8], registers: usize) -> Result<Script, Fault
         line: rest.number,
         expected: Expected::Cycles,
     })
+}
+
+// A text with no fault tells what its lines tell: each value that is told once on the one line that tells it, and the
+// statements of each kind with their lines, in their order.
+pub fn told_by_lines() -> u8
+    ensures { ToldByLines }
+{
+    0
+}
+
+// A delay lies within the bounds of a circuit only if its signal is the output of a gate, and then it is told of that gate.
+pub fn told_of_gate() -> u8
+    ensures { ToldOfGate }
+{
+    0
 }

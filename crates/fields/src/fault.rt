@@ -25,7 +25,7 @@ pub enum Expected {
     Nothing,
     // A line `end` before the text ends.
     End,
-    // Memory to hold the circuit.
+    // Memory to hold what is read.
     Memory,
     // The word of a line that tells delays and the like.
     FirstWord,
@@ -57,16 +57,16 @@ impl fmt::Display for Expected {
             Expected::End => "expected a line `end`; the text ends inside a circuit",
             Expected::Memory => "memory is short",
             Expected::FirstWord =>
-                "expected a line that begins with `cycles`, `start`, `random`, `clock`, `delay`, `show` or `take`",
+                "expected a line that begins with `cycles`, `start`, `random`, `clock`, `delay`, `show` \
+                 or `take`",
             Expected::After(line) => return f.write_str(line.after()),
             Expected::Bit => "expected 0 or 1",
             Expected::Register => "expected a register of the circuit",
-            Expected::Once(line) => return write!(f, "expected just one line `{}`", line.word()),
+            Expected::Once(line) => return write!(f, "expected just one line `{line}`"),
             Expected::NoEarlier(line) => return write!(
                 f,
-                "expected a {} no earlier than that of the line `{}` above",
+                "expected a {} no earlier than that of the line `{line}` above",
                 line.time(),
-                line.word(),
             ),
             Expected::Cycles => "expected a line `cycles`; the text ends without one",
         })

@@ -3,6 +3,8 @@ ghost use Rattle.std.specs.Prelude.{◌≡◌, find};
 ghost use Rattle.std.specs.Str.{bytes_eq};
 ghost use Rattle.fields.specs.Lines.{word_of, line_of};
 
+use std::fmt;
+
 // What a line tells.
 #[derive(Clone, Copy, PartialEq, Debug)]
 pub enum Line {
@@ -86,5 +88,11 @@ impl Line {
             Line::Clock | Line::Take => "cycle",
             _ => "moment",
         }
+    }
+}
+
+impl fmt::Display for Line {
+    fn fmt<W: fmt::Write>(&self, f: &mut fmt::Formatter<W>) -> fmt::Result {
+        f.write_str(self.word())
     }
 }

@@ -220,6 +220,14 @@ fn words(rt: HostRuntime) -> Result<(), Fail> {
     assert!(rt;
         says(
             heap,
+            4,
+            Expected::FirstWord,
+            "4: expected a line that begins with `cycles`, `start`, `random`, `clock`, `delay`, `show` or `take`",
+        )?
+    );
+    assert!(rt;
+        says(
+            heap,
             9,
             Expected::NoEarlier(Line::Take),
             "9: expected a cycle no earlier than that of the line `take` above",
