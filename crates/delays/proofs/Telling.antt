@@ -1,5 +1,5 @@
 -- What a text tells is what its lines tell.
-use Rattle.std.proofs.Common.{◌≡◌, ℕ, ◌+◌, ◌-◌, Bool, true, nat_le, List, [], ◌∷◌, ◌++◌, find, filter_map, Some, None, Ok, Err, Option, Result, sym, refl, ap, ◌∙◌, inl, inr, append-nil, arith}
+use Rattle.std.proofs.Common.{◌≡◌, ℕ, suc, ◌+◌, ◌-◌, ◌<◌, ◌⊎◌, Bool, true, nat_le, List, [], ◌∷◌, ◌++◌, length, take, slice_index_or, find, filter_map, Some, None, Ok, Err, Option, Result, sym, refl, ap, ◌∙◌, inl, inr, append-nil, arith}
 use Rattle.std.specs.List.{list_all, enumerate_from, cons_option}
 use Rattle.std.specs.Option.{option_to_list}
 use Rattle.std.proofs.lemmas.Bool.{cases_Bool}
@@ -9,6 +9,8 @@ use Rattle.std.specs.Str.{bytes_eq}
 use Rattle.lines.specs.Words.{bare, words}
 use Rattle.fields.specs.Lines.{word_of, all_lines, line_of}
 use Rattle.fields.specs.declared.fault.Expected.{Expected}
+use Rattle.fields.specs.declared.fault.Expected.TheVariants.{Cycles as NoCycles}
+use Rattle.fields.specs.declared.fault.Fault.{Fault}
 use Rattle.fields.specs.declared.line.Line.{Line}
 use Rattle.fields.specs.declared.line.Line.TheVariants.{Cycles, Start, Random, Clock, Delay, Show, Take}
 use Rattle.script.specs.declared.entry.Entry.{Entry}
@@ -16,7 +18,7 @@ use Rattle.script.specs.declared.kind.Kind.{Kind}
 use Rattle.script.specs.declared.kind.Kind.TheVariants.{Clock as Clocks, Take as Takes, Delay as Delays, Show as Shows}
 use Rattle.delays.specs.Row.{and_then, number_after, bits, entry_after, bit_after, delay_after}
 use Rattle.delays.specs.Meaning.{Told, nothing, once, with_cycles, with_start, with_seed, entries, with_entries, added, said, statement, Outcome, went, ended, meaning}
-use Rattle.delays.specs.ByLines.{after_word, entry_on, ToldByLines}
+use Rattle.delays.specs.ByLines.{after_word, entry_on, ByLines, FirstFault, ToldByLines, FaultIsFirst}
 
 -- a fault is no value
 never : {A E : Type 0} {x : A} {e : E} → Err e ≡ Ok x → ⊥
@@ -181,6 +183,9 @@ record Steps (q m : ℕ) (ls : List (List ℕ)) (t t' : Told) : Type 0 where
   seed : option_to_list t'.seed ≡ option_to_list t.seed ++ filter_map (λ l. after_word Random (number_after Random) (words (bare l))) ls
   entries : (k : Kind) → entries t' k ≡ entries t k ++ filter_map (λ x. entry_on q x.0 k (words (bare x.1))) (enumerate_from m ls)
 
+nothing_more : (q m : ℕ) (t : Told) → Steps q m [] t t
+nothing_more q m t = record { cycles = same; start = same; seed = same; entries = λ k. same }
+
 -- one more, and the rest
 joined : {A : Type 0} (xs ys zs : List A) (o : Option A) (more : List A) → ys ≡ xs ++ option_to_list o → zs ≡ ys ++ more → zs ≡ xs ++ cons_option o more
 joined xs ys zs None more first rest = rest ∙ rw first (ap (λ l. l ++ more) (append-nil xs))
@@ -196,7 +201,7 @@ went_ok (Err e) n more t' is = absurd (never is)
 
 steps : (q n m : ℕ) (ls : List (List ℕ)) (t t' : Told) → n ≡ m + 1 → meaning q n t ls ≡ Ok t' → Steps q m ls t t'
 unfolding meaning
-steps q n m [] t t' n_is is = rw (← ended_ok n t t.cycles t' is) (record { cycles = same; start = same; seed = same; entries = λ k. same })
+steps q n m [] t t' n_is is = rw (← ended_ok n t t.cycles t' is) (nothing_more q m t)
 steps q n m (l ∷ ls) t t' n_is is =
     let w = went_ok (statement q (n - 1) t (words (bare l))) n (λ u. meaning q (n + 1) u ls) t' is in
     let place : n - 1 ≡ m = omega (arith, n_is) in
@@ -210,13 +215,76 @@ steps q n m (l ∷ ls) t t' n_is is =
       entries = λ k. joined _ _ _ _ _ (s.entries k) (rest.entries k);
     }
 
-pub told_by_lines : ToldByLines
-told_by_lines q ls t is =
-    let s = steps q 1 0 ls nothing t (omega arith) is in
-    record { cycles = sym s.cycles; start = sym s.start; seed = sym s.seed; entries = every s }
+-- from nothing
+by_lines : (q : ℕ) (ls : List (List ℕ)) (t : Told) → Steps q 0 ls nothing t → ByLines q ls t
+by_lines q ls t s = record { cycles = sym s.cycles; start = sym s.start; seed = sym s.seed; entries = every }
   where
-    every : Steps q 0 ls nothing t → (k : Kind) → filter_map (λ x. entry_on q x.0 k (words (bare x.1))) (enumerate_from 0 ls) ≡ entries t k
-    every s Clocks = sym (s.entries Clocks)
-    every s Takes = sym (s.entries Takes)
-    every s Delays = sym (s.entries Delays)
-    every s Shows = sym (s.entries Shows)
+    every : (k : Kind) → filter_map (λ x. entry_on q x.0 k (words (bare x.1))) (enumerate_from 0 ls) ≡ entries t k
+    every Clocks = sym (s.entries Clocks)
+    every Takes = sym (s.entries Takes)
+    every Delays = sym (s.entries Delays)
+    every Shows = sym (s.entries Shows)
+
+pub told_by_lines : ToldByLines
+told_by_lines q ls t is = by_lines q ls t (steps q 1 0 ls nothing t (omega arith) is)
+
+-- the first fault of the lines ls, m the number of the first, counted from 0, after t is told
+record Faulty (q m : ℕ) (ls : List (List ℕ)) (t : Told) (f : Fault) : Type 0 where
+  above : ℕ
+  told : Told
+  told_above : Steps q m (take above ls) t told
+  line : f.line ≡ m + above + 1
+  fault : ((above < length ls) × (statement q (m + above) told (words (bare (slice_index_or ls above []))) ≡ Err f.expected)) ⊎ ((above ≡ length ls) × (told.cycles ≡ None) × (f.expected ≡ NoCycles))
+
+abbrev fault_of : Fault → Outcome → Fault
+fault_of g (Ok t) = g
+fault_of g (Err f) = f
+
+same_fault : (n : ℕ) (e : Expected) (f : Fault) → ◌≡◌ {A = Outcome} (Err (record { line = n; expected = e })) (Err f) → (f.line ≡ n) × (e ≡ f.expected)
+same_fault n e f is =
+    let f_is : record { line = n; expected = e } ≡ f = ap (fault_of f) is in
+    (sym (ap (λ g. g.line) f_is), ap (λ g. g.expected) f_is)
+
+ended_err : (q m n : ℕ) (t : Told) (f : Fault) → n ≡ m + 1 → (o : Option ℕ) → t.cycles ≡ o → ended n t o ≡ Err f → Faulty q m [] t f
+ended_err q m n t f n_is None o_is is =
+    let f_is = same_fault n NoCycles f is in
+    record { above = 0; told = t; told_above = nothing_more q m t; line = omega (arith, n_is, f_is.0); fault = inr (refl, o_is, sym f_is.1) }
+ended_err q m n t f n_is (Some x) o_is is = absurd (never (sym is))
+
+faulty : (q n m : ℕ) (ls : List (List ℕ)) (t : Told) (f : Fault) → n ≡ m + 1 → meaning q n t ls ≡ Err f → Faulty q m ls t f
+unfolding meaning
+faulty q n m [] t f n_is is = ended_err q m n t f n_is t.cycles refl is
+faulty q n m (l ∷ ls) t f n_is is = go (λ u h. faulty q (n + 1) (m + 1) ls u f (omega (arith, n_is)) h) (statement q (n - 1) t (words (bare l))) refl is
+  where
+    place : n - 1 ≡ m
+    place = omega (arith, n_is)
+
+    go : ((u : Told) → meaning q (n + 1) u ls ≡ Err f → Faulty q (m + 1) ls u f) → (r : Result Told Expected) → statement q (n - 1) t (words (bare l)) ≡ r → went r n (λ u. meaning q (n + 1) u ls) ≡ Err f → Faulty q m (l ∷ ls) t f
+    go below (Err e) r_is is =
+        let f_is = same_fault n e f is in
+        let here : m + 0 ≡ m = omega arith in
+        record { above = 0; told = t; told_above = nothing_more q m t; line = omega (arith, n_is, f_is.0); fault = inl (omega arith, rw (here, ← f_is.1) (rw place at r_is)) }
+    go below (Ok u) r_is is =
+        let s = step q m t (words (bare l)) u (rw place at r_is) in
+        let rest = below u is in
+        let on : m + suc rest.above ≡ m + 1 + rest.above = omega arith in
+        record {
+          above = suc rest.above;
+          told = rest.told;
+          told_above = record {
+            cycles = joined _ _ _ _ _ s.cycles rest.told_above.cycles;
+            start = joined _ _ _ _ _ s.start rest.told_above.start;
+            seed = joined _ _ _ _ _ s.seed rest.told_above.seed;
+            entries = λ k. joined _ _ _ _ _ (s.entries k) (rest.told_above.entries k);
+          };
+          line = omega (arith, rest.line);
+          fault = elim rest.fault [ inl a ↦ inl (omega (arith, a.0), rw on a.1) | inr b ↦ inr (omega (arith, b.0), b.1, b.2) ];
+        }
+
+first_fault : (q : ℕ) (ls : List (List ℕ)) (f : Fault) → Faulty q 0 ls nothing f → FirstFault q ls f
+first_fault q ls f g =
+    let place : 0 + g.above ≡ g.above = omega arith in
+    record { above = g.above; told = g.told; told_above = by_lines q (take g.above ls) g.told g.told_above; line = omega (arith, g.line); fault = rw place at g.fault }
+
+pub fault_is_first : FaultIsFirst
+fault_is_first q ls f is = first_fault q ls f (faulty q 1 0 ls nothing f (omega arith) is)

@@ -1,5 +1,5 @@
 -- What a text tells, by its lines.
-use Rattle.std.specs.Prelude.{◌≡◌, ℕ, ◌+◌, ◌<◌, ◌≤◌, cond, List, [], ◌∷◌, slice_index, filter_map, option_to_list, None, Ok, Option, Result}
+use Rattle.std.specs.Prelude.{◌≡◌, ℕ, ◌+◌, ◌<◌, ◌≤◌, ◌⊎◌, cond, List, [], ◌∷◌, length, take, slice_index, slice_index_or, filter_map, option_to_list, None, Ok, Err, Option, Result}
 use Rattle.std.specs.List.{enumerate_from}
 use Rattle.std.specs.Result.{result_ok}
 use Rattle.std.specs.Str.{bytes_eq}
@@ -8,6 +8,8 @@ use Rattle.circuit.specs.Whole.{FewGates}
 use Rattle.lines.specs.Words.{words, bare}
 use Rattle.fields.specs.Lines.{word_of}
 use Rattle.fields.specs.declared.fault.Expected.{Expected}
+use Rattle.fields.specs.declared.fault.Expected.TheVariants.{Cycles as NoCycles}
+use Rattle.fields.specs.declared.fault.Fault.{Fault}
 use Rattle.fields.specs.declared.line.Line.{Line}
 use Rattle.fields.specs.declared.line.Line.TheVariants.{Cycles, Start, Random, Clock, Delay, Show, Take}
 use Rattle.script.specs.declared.entry.Entry.{Entry}
@@ -16,7 +18,7 @@ use Rattle.script.specs.declared.kind.Kind.TheVariants.{Clock as Clocks, Take as
 use Rattle.script.specs.declared.script.Script.{Script}
 use Rattle.script.specs.Told.{DelayFits}
 use Rattle.delays.specs.Row.{number_after, bits, entry_after, bit_after, delay_of, delay_after}
-use Rattle.delays.specs.Meaning.{Told, nothing, entries, meaning}
+use Rattle.delays.specs.Meaning.{Told, nothing, entries, statement, meaning}
 
 -- what a line says after its first word, if that is the word of l
 abbrev pub after_word : {A : Type 0} → Line → (List (List ℕ) → Result A Expected) → List (List ℕ) → Option A
@@ -37,6 +39,20 @@ pub record ByLines (q : ℕ) (ls : List (List ℕ)) (t : Told) : Type 0 where
   pub start : filter_map (λ l. after_word Start (bits q) (words (bare l))) ls ≡ option_to_list t.start
   pub seed : filter_map (λ l. after_word Random (number_after Random) (words (bare l))) ls ≡ option_to_list t.seed
   pub entries : (k : Kind) → filter_map (λ x. entry_on q x.0 k (words (bare x.1))) (enumerate_from 0 ls) ≡ entries t k
+
+-- f is the first fault of the lines ls: those above its line tell t, and its line is at fault below them; or no line is,
+-- and none tells how many cycles
+pub record FirstFault (q : ℕ) (ls : List (List ℕ)) (f : Fault) : Type 0 where
+  pub above : ℕ
+  pub told : Told
+  pub told_above : ByLines q (take above ls) told
+  pub line : f.line ≡ above + 1
+  pub fault : ((above < length ls) × (statement q above told (words (bare (slice_index_or ls above []))) ≡ Err f.expected))
+      ⊎ ((above ≡ length ls) × (told.cycles ≡ None) × (f.expected ≡ NoCycles))
+
+-- a text with a fault has it first on its line
+abbrev pub FaultIsFirst : Type 0
+FaultIsFirst = (q : ℕ) (ls : List (List ℕ)) (f : Fault) → meaning q 1 nothing ls ≡ Err f → FirstFault q ls f
 
 -- a text with no fault tells what its lines tell
 abbrev pub ToldByLines : Type 0

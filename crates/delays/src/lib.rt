@@ -4,7 +4,7 @@
 ghost use Rattle.std.specs.Prelude.{◌≡◌, Some, MatchOption};
 ghost use Rattle.lines.specs.Words.{words, lines};
 ghost use Rattle.delays.specs.Meaning.{nothing, drafted, scripted, added, said, statement, meaning, Stated, ToldOnce, IsRead};
-ghost use Rattle.delays.specs.ByLines.{ToldByLines, ToldOfGate};
+ghost use Rattle.delays.specs.ByLines.{FaultIsFirst, ToldByLines, ToldOfGate};
 
 use draft::Draft;
 use fields::{Expected, Fault, Line};
@@ -125,6 +125,13 @@ pub fn read(heap: Global, text: &[u8], registers: usize) -> Result<Script, Fault
 // statements of each kind with their lines, in their order.
 pub fn told_by_lines() -> u8
     ensures { ToldByLines }
+{
+    0
+}
+
+// A text with a fault has it first on its line: the lines above tell what they tell, and that line is at fault below them.
+pub fn fault_is_first() -> u8
+    ensures { FaultIsFirst }
 {
     0
 }
