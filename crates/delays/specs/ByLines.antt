@@ -40,8 +40,8 @@ pub record ByLines (q : ℕ) (ls : List (List ℕ)) (t : Told) : Type 0 where
   pub seed : filter_map (λ l. after_word Random (number_after Random) (words (bare l))) ls ≡ option_to_list t.seed
   pub entries : (k : Kind) → filter_map (λ x. entry_on q x.0 k (words (bare x.1))) (enumerate_from 0 ls) ≡ entries t k
 
--- f is the first fault of the lines ls: those above its line tell t, and its line is at fault below them; or no line is,
--- and none tells how many cycles
+-- f is the first fault of the lines ls: those above its line tell `told`, and its line is at fault below them; or no line
+-- is, and none tells how many cycles
 pub record FirstFault (q : ℕ) (ls : List (List ℕ)) (f : Fault) : Type 0 where
   pub above : ℕ
   pub told : Told

@@ -129,14 +129,16 @@ pub fn told_by_lines() -> u8
     0
 }
 
-// A text with a fault has it first on its line: the lines above tell what they tell, and that line is at fault below them.
+// A text with a fault has it first on its line: the lines above tell what they tell, and that line is at fault below
+// them.
 pub fn fault_is_first() -> u8
     ensures { FaultIsFirst }
 {
     0
 }
 
-// A delay lies within the bounds of a circuit only if its signal is the output of a gate, and then it is told of that gate.
+// A delay lies within the bounds of a circuit only if its signal is the output of a gate, and then it is told of that
+// gate.
 pub fn told_of_gate() -> u8
     ensures { ToldOfGate }
 {
