@@ -2,6 +2,7 @@
 ghost use Rattle.std.specs.Prelude.{◌≡◌};
 ghost use Rattle.fields.specs.declared.fault.Expected.TheVariants.{Memory};
 
+use crate::line::Line;
 use std::alloc::AllocError;
 use std::fmt;
 
@@ -24,13 +25,27 @@ pub enum Expected {
     Nothing,
     // A line `end` before the text ends.
     End,
-    // Memory to hold the circuit.
+    // Memory to hold what is read.
     Memory,
+    // The word of a line that tells delays and the like.
+    FirstWord,
+    // What such a line has after its first word.
+    After(Line),
+    // 0 or 1.
+    Bit,
+    // A register of the circuit.
+    Register,
+    // A line of which there is just one.
+    Once(Line),
+    // A line in order among those of its kind.
+    NoEarlier(Line),
+    // A line `cycles` before the text ends.
+    Cycles,
 }
 
 impl fmt::Display for Expected {
     fn fmt<W: fmt::Write>(&self, f: &mut fmt::Formatter<W>) -> fmt::Result {
-        f.write_str(match self {
+        f.write_str(match *self {
             Expected::Circuit => "expected a line `circuit` or `circuit NAME`",
             Expected::Name => "expected at most one name of printable ASCII after `circuit`",
             Expected::Statement =>
@@ -41,6 +56,19 @@ impl fmt::Display for Expected {
             Expected::Nothing => "expected nothing after `end`",
             Expected::End => "expected a line `end`; the text ends inside a circuit",
             Expected::Memory => "memory is short",
+            Expected::FirstWord =>
+                "expected a line that begins with `cycles`, `start`, `random`, `clock`, `delay`, `show` \
+                 or `take`",
+            Expected::After(line) => return f.write_str(line.after()),
+            Expected::Bit => "expected 0 or 1",
+            Expected::Register => "expected a register of the circuit",
+            Expected::Once(line) => return write!(f, "expected just one line `{line}`"),
+            Expected::NoEarlier(line) => return write!(
+                f,
+                "expected a {} no earlier than that of the line `{line}` above",
+                line.time(),
+            ),
+            Expected::Cycles => "expected a line `cycles`; the text ends without one",
         })
     }
 }

@@ -9,8 +9,10 @@ ghost use Rattle.fields.specs.Fields.{named, field, fields, wanted};
 use lines::{Unread, Words};
 
 mod fault;
+mod line;
 
 pub use fault::{Expected, Fault};
+pub use line::Line;
 
 impl From<Unread> for Expected {
     ghost from_gives = { λ u e. e ≡ wanted u };

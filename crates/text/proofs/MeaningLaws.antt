@@ -1,5 +1,5 @@
 -- Laws of what a text of circuits means.
-use Rattle.std.proofs.Common.{◌≡◌, ℕ, zero, suc, ◌+◌, ◌-◌, ◌⊎◌, Bool, false, List, [], ◌∷◌, ◌++◌, slice_get, Some, None, Ok, Err, Option, Result, MatchOption, MatchResult, sym, refl, ap, ◌∙◌, inl, inr, arith}
+use Rattle.std.proofs.Common.{◌≡◌, ℕ, zero, suc, ◌+◌, ◌-◌, ◌⊎◌, Bool, false, List, [], ◌∷◌, ◌++◌, slice_get, Some, None, Ok, Err, Option, Result, MatchOption, sym, refl, ap, ◌∙◌, inl, inr, arith}
 use Rattle.std.specs.Borrow.{Bor}
 use Rattle.std.specs.Iterator.{YieldsFirstRef}
 use Rattle.std.specs.List.{filter_map, enumerate_from}
@@ -7,7 +7,6 @@ use Rattle.std.specs.Str.{bytes_eq}
 use Rattle.std.specs.Bool.{then_some}
 use Rattle.std.proofs.lemmas.Bool.{cases_Bool, ne_eqb}
 use Rattle.lines.specs.Words.{bare, words}
-use Rattle.fields.specs.declared.fault.Fault.{Fault}
 use Rattle.fields.specs.declared.fault.Expected.{Expected}
 use Rattle.fields.specs.declared.fault.Expected.TheVariants.{End as Ending}
 use Rattle.text.specs.declared.draft.Keyword.{Keyword}
@@ -50,30 +49,6 @@ no_line n d none = rw none refl
 pub no_line_outside : (n : ℕ) {xs : List (List ℕ)} → xs ≡ [] → first_circuit n xs ≡ Ok None
 unfolding first_circuit
 no_line_outside n none = rw none refl
-
-abbrev fault_or : {A : Type 0} → Fault → Result A Fault → Fault
-fault_or g (Ok x) = g
-fault_or g (Err f) = f
-
-abbrev ok_or : {A : Type 0} → A → Result A Fault → A
-ok_or y (Ok x) = x
-ok_or y (Err f) = y
-
--- what was expected, with its line, is a fault
-module _ {A : Type 0} (n : ℕ) (r : Result A Expected) (q : Result A Fault) (is : MatchResult r (λ x. q ≡ Ok x) (λ k. q ≡ Err (record { line = n; expected = k }))) where
-  pub at_fault : (f : Fault) → q ≡ Err f → (r ≡ Err f.expected) × (f ≡ record { line = n; expected = f.expected })
-  at_fault f e = go r is
-    where
-      go : (r : Result A Expected) → MatchResult r (λ x. q ≡ Ok x) (λ k. q ≡ Err (record { line = n; expected = k })) → (r ≡ Err f.expected) × (f ≡ record { line = n; expected = f.expected })
-      go (Ok x) is = absurd (grind (arith, is, e))
-      go (Err k) is = let f_is : f ≡ record { line = n; expected = k } = ap (fault_or f) (sym e ∙ is) in (ap (λ g. Err g.expected) (sym f_is), f_is ∙ ap (λ g. record { line = n; expected = g.expected }) (sym f_is))
-
-  pub no_fault : (x : A) → q ≡ Ok x → r ≡ Ok x
-  no_fault x e = go r is
-    where
-      go : (r : Result A Expected) → MatchResult r (λ x. q ≡ Ok x) (λ k. q ≡ Err (record { line = n; expected = k })) → r ≡ Ok x
-      go (Ok y) is = ap (λ z. Ok z) (ap (ok_or x) (sym is ∙ e))
-      go (Err k) is = absurd (grind (arith, is, e))
 
 -- the search for a line goes through the numbers of those that begin with the word
 abbrev pub number_if : (word : List ℕ) → ℕ × List ℕ → Option ℕ

@@ -1,10 +1,13 @@
-// Examples that are run: tables, circuits that are looked at, the drawing, arrival times, circuits gone through time.
+// Examples that are run: tables, circuits that are looked at, the drawing, arrival times, circuits gone through time, texts
+// of delays.
 #![tactic(auto)]
 
 #[cfg(test)]
 mod arrival_trials;
 #[cfg(test)]
 mod bench_trials;
+#[cfg(test)]
+mod delays_trials;
 #[cfg(test)]
 mod drawing_trials;
 #[cfg(test)]

@@ -1,6 +1,7 @@
 use Rattle.std.proofs.Common.{refl, sym, ap, ◌∙◌, Err, inl, inr, arith, rules}
 use Rattle.std.proofs.lemmas.Result.{err_from_is_err_and, MatchResult-at_err, MatchResult-at_ok}
-use Rattle.text.proofs.MeaningLaws.{one_line, no_line, at_fault, no_fault}
+use Rattle.fields.proofs.FaultLaws.{at_fault, no_fault}
+use Rattle.text.proofs.MeaningLaws.{one_line, no_line}
 use Rattle.text.proofs.inside.Goals as goal
 
 pub returns-in_err-progress : goal.returns-in_err-progress

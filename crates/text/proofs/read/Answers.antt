@@ -1,6 +1,7 @@
 use Rattle.std.proofs.Common.{refl, sym, ap, ◌∙◌, Err, inl, inr, arith, rules}
 use Rattle.std.proofs.lemmas.Result.{err_from_is_err_and, MatchResult-at_err, MatchResult-at_ok}
-use Rattle.text.proofs.MeaningLaws.{one_outside, no_line_outside, at_fault, no_fault}
+use Rattle.fields.proofs.FaultLaws.{at_fault, no_fault}
+use Rattle.text.proofs.MeaningLaws.{one_outside, no_line_outside}
 use Rattle.text.proofs.read.Goals as goal
 
 pub returns-in_err-draft : goal.returns-in_err-draft
