@@ -1,0 +1,100 @@
+// The margins of a circuit's registers.
+ghost use Rattle.std.specs.Prelude.{◌≡◌, ◌*◌, ◌<◌, ◌≤◌, length, MatchResult};
+ghost use Rattle.circuit.specs.Checked.{of, registers_of};
+ghost use Rattle.circuit.specs.declared.refusal.Refusal.TheVariants.{NoRoom};
+ghost use Rattle.arrival.specs.declared.edge.Edge.TheVariants.{Late, Early};
+ghost use Rattle.promise.specs.Machine.{machine_in};
+ghost use Rattle.slack.specs.Margin.{margin_of, MarginsIn, IsWorst};
+
+use crate::worst::{Smallest, Worst};
+use arrival::{Arrivals, Edge, fill_from_registers};
+use circuit::{Circuit, MOST_GATES, MOST_REGISTERS, Refusal, Register};
+
+// As many signals as a circuit can have.
+const MOST_SIGNALS: usize = MOST_REGISTERS + MOST_GATES;
+
+// How much a register's sum could grow and still be right; below 0, how much is missing. Of its latest time it is period
+// and early time less that and setup; of its earliest that less late time and hold, less one.
+fn margin(a: Arrivals<'_, '_>, edge: Edge, r: usize) -> i64
+    requires { r < registers_of a.circuit }
+    ensures { result ≡ margin_of edge (of a.entry.circuit machine_in) r }
+{
+    let register = Register::from(a.circuit.registers()[r]);
+    let signal = register.signal as usize;
+    match edge {
+        Edge::Late => {
+            let limit = i64::from(a.circuit.period()) + i64::from(register.early);
+            limit - (a.latest[signal] as i64 + i64::from(a.circuit.setup()))
+        }
+        Edge::Early => {
+            let limit = i64::from(register.late) + i64::from(a.circuit.hold());
+            a.earliest[signal] as i64 - limit - 1
+        }
+    }
+}
+
+// The smallest margin of one kind.
+fn worst(a: Arrivals<'_, '_>, edge: Edge) -> Worst
+    ensures { IsWorst edge (of a.entry.circuit machine_in) (registers_of a.entry.circuit) result }
+{
+    let mut worst = Worst {
+        register: 0,
+        margin: margin(a, edge, 0),
+    };
+    for register in 1..a.circuit.register_count() {
+        let margin = margin(a, edge, register);
+        if margin < worst.margin {
+            worst = Worst { register, margin };
+        }
+    }
+    worst
+}
+
+// Writes both margins of every register.
+fn fill(a: Arrivals<'_, '_>, room: &mut [i64])
+    requires { 2 * registers_of a.circuit ≤ length room.old }
+    ensures { MarginsIn (of a.entry.circuit machine_in) (registers_of a.entry.circuit) room.old room.new }
+{
+    for r in 0..a.circuit.register_count() {
+        room[2 * r] = margin(a, Edge::Late, r);
+        room[2 * r + 1] = margin(a, Edge::Early, r);
+    }
+}
+
+// The margins of every register, of register `r` at `2 * r` and `2 * r + 1` of the lent room, and the smallest of each
+// kind. Room for fewer is refused, and room for more keeps the rest of what it had.
+pub fn margins(circuit: Circuit<'_>, room: &mut [i64]) -> Result<Smallest, Refusal>
+    ensures { MatchResult result
+        (λ s. (2 * registers_of circuit.entry ≤ length room.old)
+        × MarginsIn (of circuit.entry machine_in) (registers_of circuit.entry) room.old room.new
+        × IsWorst Late (of circuit.entry machine_in) (registers_of circuit.entry) s.late
+        × IsWorst Early (of circuit.entry machine_in) (registers_of circuit.entry) s.early)
+        (λ e. (length room.old < 2 * registers_of circuit.entry) × (e ≡ NoRoom (2 * registers_of circuit.entry)) × (room.new ≡ room.old)) }
+{
+    let needed = 2 * circuit.register_count();
+    if room.len() < needed {
+        return Err(Refusal::NoRoom(needed));
+    }
+    // As long as any circuit needs, and no heap.
+    let mut latest = [0; MOST_SIGNALS];
+    let mut earliest = [0; MOST_SIGNALS];
+    fill_from_registers(circuit, &mut latest, &mut earliest)?;
+    let a = Arrivals::new(circuit, &latest, &earliest);
+    fill(a, room);
+    Ok(Smallest {
+        late: worst(a, Edge::Late),
+        early: worst(a, Edge::Early),
+    })
+}
+
+// The smallest margin of each kind.
+pub fn smallest(circuit: Circuit<'_>) -> Smallest
+    ensures late { IsWorst Late (of circuit.entry machine_in) (registers_of circuit.entry) result.late }
+    ensures early { IsWorst Early (of circuit.entry machine_in) (registers_of circuit.entry) result.early }
+{
+    let mut room = [0; 2 * MOST_REGISTERS];
+    let Ok(smallest) = margins(circuit, &mut room) else {
+        unreachable!()
+    };
+    smallest
+}
