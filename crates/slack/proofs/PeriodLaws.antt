@@ -4,9 +4,10 @@ use Rattle.std.proofs.lemmas.Bool.{cases_lt}
 use Rattle.std.proofs.lemmas.Int.{ints, clamps}
 use Rattle.std.specs.Int.{int_max}
 use Rattle.arrival.specs.declared.edge.Edge.TheVariants.{Late}
-use Rattle.promise.specs.Machine.{Machine}
+use Rattle.promise.specs.Machine.{Machine, Formed}
+use Rattle.promise.specs.Promise.{with_period}
 use Rattle.slack.specs.Margin.{IsWorst}
-use Rattle.slack.specs.Period.{SetupKeptWith, IsShortest, OneLessIsNot}
+use Rattle.slack.specs.Period.{SetupKeptWith, IsShortest, OneLessIsNot, PassedFromShortest}
 use Rattle.slack.specs.declared.worst.Worst.{Worst}
 
 -- a longer period keeps the first sum right
@@ -24,6 +25,15 @@ one_less m p = (
       | inl below ↦ absurd (none (p - 1) (omega arith) (longer m q (p - 1) (omega arith) kept_q))
       | inr above ↦ above
     ]
+
+formed_with : (m : Machine) (p : ℕ) → Formed m → Formed (with_period m p)
+formed_with m p f = record { sources = f.sources; sound = f.sound; taken = f.taken; clocked = f.clocked; output_ordered = f.output_ordered }
+
+pub passed_from : PassedFromShortest
+passed_from m s formed shortest p = (
+  λ passed. (shortest.1 p passed.setup_kept, passed.hold_kept),
+  λ (more, hold). record { formed = formed_with m p formed; setup_kept = longer m s p more shortest.0; hold_kept = hold },
+)
 
 -- the machine's period less the smallest first margin, or 0 where that is below it
 pub from_worst : (m : Machine) (w : Worst) (p : ℕ) → IsWorst Late m m.registers w → pos p ≡ int_max (pos m.period -ℤ w.margin) (pos 0) → IsShortest m p

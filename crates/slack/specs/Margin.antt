@@ -4,6 +4,7 @@ use Rattle.arrival.specs.declared.edge.Edge.{Edge}
 use Rattle.arrival.specs.declared.edge.Edge.TheVariants.{Late, Early}
 use Rattle.promise.specs.Machine.{Machine, Formed, Passed, last_change, first_change, SetupKept, HoldKept}
 use Rattle.slack.specs.declared.worst.Worst.{Worst}
+use Rattle.slack.specs.declared.worst.Smallest.{Smallest}
 
 -- the margin of a register: period and early time less latest time and setup; earliest time less late time and hold, less one
 abbrev pub margin_of : Edge → Machine → ℕ → ℤ
@@ -45,8 +46,8 @@ MarginGrows =
 
 -- `after` has the margins of the first n registers, of register r at 2r and 2r + 1, and is else as `before` was
 pub record MarginsIn (m : Machine) (n : ℕ) (before after : List ℤ) : Type 0 where
-  pub late : (r : ℕ) → r < n → slice_index_or after (2 * r) (pos 0) ≡ margin_of Late m r
-  pub early : (r : ℕ) → r < n → slice_index_or after (2 * r + 1) (pos 0) ≡ margin_of Early m r
+  pub setup : (r : ℕ) → r < n → slice_index_or after (2 * r) (pos 0) ≡ margin_of Late m r
+  pub hold : (r : ℕ) → r < n → slice_index_or after (2 * r + 1) (pos 0) ≡ margin_of Early m r
   pub rest : (k : ℕ) → 2 * n ≤ k → slice_index_or after k (pos 0) ≡ slice_index_or before k (pos 0)
 
 -- the smallest margin of the first n registers, and the first register that has it
@@ -55,3 +56,9 @@ pub record IsWorst (e : Edge) (m : Machine) (n : ℕ) (w : Worst) : Type 0 where
   pub has : w.margin ≡ margin_of e m w.register
   pub smallest : (q : ℕ) → q < n → w.margin ≤ℤ margin_of e m q
   pub first : (q : ℕ) → q < w.register → w.margin <ℤ margin_of e m q
+
+-- the smallest margins of both kinds, of all registers; the machine is passed exactly if neither is below 0
+pub record AreSmallest (m : Machine) (s : Smallest) : Type 0 where
+  pub setup : IsWorst Late m m.registers s.setup
+  pub hold : IsWorst Early m m.registers s.hold
+  pub passed : Passed m ↔ ((pos 0 ≤ℤ s.setup.margin) × (pos 0 ≤ℤ s.hold.margin))

@@ -1,7 +1,17 @@
 -- The shortest period of a machine, and its frequency.
-use Rattle.std.specs.Prelude.{◌≡◌, ℕ, ◌+◌, ◌*◌, ◌<◌, ◌≤◌, ◌↔◌}
+use Rattle.std.specs.Prelude.{◌≡◌, ℕ, ◌+◌, ◌*◌, ◌<◌, ◌≤◌, ◌↔◌, pos, ◌-ℤ◌}
+use Rattle.arrival.specs.declared.edge.Edge.TheVariants.{Late, Early}
 use Rattle.promise.specs.Machine.{Machine, Formed, Passed, SetupKept, HoldKept, last_change, first_change}
 use Rattle.promise.specs.Promise.{with_period}
+use Rattle.slack.specs.Margin.{margin_of}
+
+-- with another period arrival times and second margins are the same, and first margins change by as much as the period does
+abbrev pub OtherPeriod : Type 0
+OtherPeriod =
+    (m : Machine) (p : ℕ) →
+    ((k : ℕ) → (last_change (with_period m p) k ≡ last_change m k) × (first_change (with_period m p) k ≡ first_change m k))
+    × ((r : ℕ) → margin_of Early (with_period m p) r ≡ margin_of Early m r)
+    × ((r : ℕ) → margin_of Late (with_period m p) r -ℤ pos p ≡ margin_of Late m r -ℤ pos m.period)
 
 -- with the period p the first sum is right at every register
 abbrev pub SetupKeptWith : Machine → ℕ → Type 0
@@ -11,20 +21,17 @@ SetupKeptWith m p = (r : ℕ) → r < m.registers → SetupKept (with_period m p
 abbrev pub IsShortest : Machine → ℕ → Type 0
 IsShortest m p = SetupKeptWith m p × ((q : ℕ) → SetupKeptWith m q → p ≤ q)
 
--- it is right with the shortest period, and with one less it is not; a period for which that holds, or that is 0, is the shortest
+-- the shortest period is that with which the first sum is right at every register, and which is 0 or with one less of which it is not
 abbrev pub OneLessIsNot : Type 0
 OneLessIsNot = (m : Machine) (p : ℕ) → IsShortest m p ↔ (SetupKeptWith m p × ((q : ℕ) → q + 1 ≡ p → SetupKeptWith m q → ⊥))
 
--- arrival times, and so the second sum, do not depend on the period
-abbrev pub PeriodApart : Type 0
-PeriodApart =
-    (m : Machine) (p k : ℕ) → (last_change (with_period m p) k ≡ last_change m k) × (first_change (with_period m p) k ≡ first_change m k)
-    × (HoldKept (with_period m p) k ↔ HoldKept m k)
+-- the periods with which a machine is passed are those from s on, where the second sum is right at every register; else none
+abbrev pub PassedFrom : Machine → ℕ → Type 0
+PassedFrom m s = (p : ℕ) → Passed (with_period m p) ↔ ((s ≤ p) × ((r : ℕ) → r < m.registers → HoldKept m r))
 
--- a machine with the second sum right at every register is passed with the shortest period and every longer one, and with no other
+-- a machine that is well formed is passed from its shortest period on
 abbrev pub PassedFromShortest : Type 0
-PassedFromShortest =
-    (m : Machine) (s p : ℕ) → Formed m → ((r : ℕ) → r < m.registers → HoldKept m r) → IsShortest m s → Passed (with_period m p) ↔ (s ≤ p)
+PassedFromShortest = (m : Machine) (s : ℕ) → Formed m → IsShortest m s → PassedFrom m s
 
 -- f is the frequency of a period in picoseconds, in thousandths of MHz and rounded down: as many whole periods as a thousandth of a second has
 abbrev pub IsFrequency : (period f : ℕ) → Type 0

@@ -2,7 +2,7 @@
 #![tactic(auto)]
 
 ghost use Rattle.slack.specs.Margin.{PassedByMargins, MarginIsExact, MarginGrows};
-ghost use Rattle.slack.specs.Period.{OneLessIsNot, PeriodApart, PassedFromShortest};
+ghost use Rattle.slack.specs.Period.{OtherPeriod, OneLessIsNot, PassedFromShortest};
 ghost use Rattle.slack.specs.Word.{VerdictByMargins};
 
 mod margin;
@@ -41,6 +41,13 @@ pub fn verdict_by_margins() -> u8
     0
 }
 
+// With another period arrival times and second margins are the same, and first margins change by as much.
+pub fn other_period() -> u8
+    ensures { OtherPeriod }
+{
+    0
+}
+
 // With one less than the shortest period the first sum is not right at every register.
 pub fn one_less_is_not() -> u8
     ensures { OneLessIsNot }
@@ -48,14 +55,7 @@ pub fn one_less_is_not() -> u8
     0
 }
 
-// Arrival times and the second sum do not depend on the period.
-pub fn period_apart() -> u8
-    ensures { PeriodApart }
-{
-    0
-}
-
-// Where the second sum is right, a machine is passed with the shortest period and every longer one, and with no other.
+// A machine is passed from its shortest period on, where the second sum is right at every register.
 pub fn passed_from_shortest() -> u8
     ensures { PassedFromShortest }
 {

@@ -2,16 +2,15 @@
 ghost use Rattle.std.specs.Prelude.{◌≡◌, ◌*◌, ◌<◌, ◌≤◌, length, MatchResult};
 ghost use Rattle.circuit.specs.Checked.{of, registers_of};
 ghost use Rattle.circuit.specs.declared.refusal.Refusal.TheVariants.{NoRoom};
-ghost use Rattle.arrival.specs.declared.edge.Edge.TheVariants.{Late, Early};
 ghost use Rattle.promise.specs.Machine.{machine_in};
-ghost use Rattle.slack.specs.Margin.{margin_of, MarginsIn, IsWorst};
+ghost use Rattle.slack.specs.Margin.{margin_of, MarginsIn, IsWorst, AreSmallest};
 
 use crate::worst::{Smallest, Worst};
-use arrival::{Arrivals, Edge, fill_from_registers};
-use circuit::{Circuit, MOST_GATES, MOST_REGISTERS, Refusal, Register};
+use arrival::{Arrivals, Edge, MOST_SIGNALS, fill_from_registers};
+use circuit::{Circuit, MOST_REGISTERS, Refusal, Register};
 
-// As many signals as a circuit can have.
-const MOST_SIGNALS: usize = MOST_REGISTERS + MOST_GATES;
+// As many margins as a circuit can have.
+const MOST_MARGINS: usize = 2 * MOST_REGISTERS;
 
 // How much a register's sum could grow and still be right; below 0, how much is missing. Of its latest time it is period
 // and early time less that and setup; of its earliest that less late time and hold, less one.
@@ -50,6 +49,16 @@ fn worst(a: Arrivals<'_, '_>, edge: Edge) -> Worst
     worst
 }
 
+// The smallest margin of each kind, where arrival times are known.
+fn smallest_of(a: Arrivals<'_, '_>) -> Smallest
+    ensures { AreSmallest (of a.entry.circuit machine_in) result }
+{
+    Smallest {
+        setup: worst(a, Edge::Late),
+        hold: worst(a, Edge::Early),
+    }
+}
+
 // Writes both margins of every register.
 fn fill(a: Arrivals<'_, '_>, room: &mut [i64])
     requires { 2 * registers_of a.circuit ≤ length room.old }
@@ -67,8 +76,7 @@ pub fn margins(circuit: Circuit<'_>, room: &mut [i64]) -> Result<Smallest, Refus
     ensures { MatchResult result
         (λ s. (2 * registers_of circuit.entry ≤ length room.old)
         × MarginsIn (of circuit.entry machine_in) (registers_of circuit.entry) room.old room.new
-        × IsWorst Late (of circuit.entry machine_in) (registers_of circuit.entry) s.late
-        × IsWorst Early (of circuit.entry machine_in) (registers_of circuit.entry) s.early)
+        × AreSmallest (of circuit.entry machine_in) s)
         (λ e. (length room.old < 2 * registers_of circuit.entry) × (e ≡ NoRoom (2 * registers_of circuit.entry)) × (room.new ≡ room.old)) }
 {
     let needed = 2 * circuit.register_count();
@@ -81,18 +89,14 @@ pub fn margins(circuit: Circuit<'_>, room: &mut [i64]) -> Result<Smallest, Refus
     fill_from_registers(circuit, &mut latest, &mut earliest)?;
     let a = Arrivals::new(circuit, &latest, &earliest);
     fill(a, room);
-    Ok(Smallest {
-        late: worst(a, Edge::Late),
-        early: worst(a, Edge::Early),
-    })
+    Ok(smallest_of(a))
 }
 
 // The smallest margin of each kind.
 pub fn smallest(circuit: Circuit<'_>) -> Smallest
-    ensures late { IsWorst Late (of circuit.entry machine_in) (registers_of circuit.entry) result.late }
-    ensures early { IsWorst Early (of circuit.entry machine_in) (registers_of circuit.entry) result.early }
+    ensures { AreSmallest (of circuit.entry machine_in) result }
 {
-    let mut room = [0; 2 * MOST_REGISTERS];
+    let mut room = [0; MOST_MARGINS];
     let Ok(smallest) = margins(circuit, &mut room) else {
         unreachable!()
     };

@@ -2,7 +2,7 @@
 ghost use Rattle.std.specs.Prelude.{◌≡◌, ◌/◌, ◌<◌, IfSome, IsNone, ◌↔◌};
 ghost use Rattle.circuit.specs.Checked.{of};
 ghost use Rattle.promise.specs.Machine.{machine_in};
-ghost use Rattle.slack.specs.Period.{IsShortest, IsFrequency};
+ghost use Rattle.slack.specs.Period.{IsShortest, PassedFrom, IsFrequency};
 
 use crate::margin::smallest;
 use circuit::Circuit;
@@ -12,10 +12,11 @@ const PICOSECONDS: u64 = 1_000_000_000;
 
 // The smallest period with which no register's input comes too late. It may be longer than a circuit's own can be.
 pub fn shortest_period(circuit: Circuit<'_>) -> u64
-    ensures { IsShortest (of circuit.entry machine_in) result }
+    ensures shortest { IsShortest (of circuit.entry machine_in) result }
+    ensures passed { PassedFrom (of circuit.entry machine_in) result }
 {
     // Where the period changes, every margin of this kind changes by as much.
-    let shortest = i64::from(circuit.period()) - smallest(circuit).late.margin;
+    let shortest = i64::from(circuit.period()) - smallest(circuit).setup.margin;
     shortest.max(0) as u64
 }
 

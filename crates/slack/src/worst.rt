@@ -7,10 +7,9 @@ pub struct Worst {
     pub margin: i64,
 }
 
-// The smallest margin of each kind: of the latest times, which setup and period bound, and of the earliest, which hold
-// bounds.
+// The smallest margins of both kinds: of the sum that the setup time is in, and of that with the hold time.
 #[derive(Clone, Copy, PartialEq, Debug)]
 pub struct Smallest {
-    pub late: Worst,
-    pub early: Worst,
+    pub setup: Worst,
+    pub hold: Worst,
 }
