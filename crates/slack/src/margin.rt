@@ -1,7 +1,9 @@
 // The margins of a circuit's registers.
-ghost use Rattle.std.specs.Prelude.{◌≡◌, ◌*◌, ◌<◌, ◌≤◌, length, MatchResult};
+ghost use Rattle.std.specs.Prelude.{◌≡◌, ◌*◌, ◌^◌, ◌<◌, ◌≤◌, length, MatchResult, pos, ◌<ℤ◌};
 ghost use Rattle.circuit.specs.Checked.{of, registers_of};
+ghost use Rattle.circuit.specs.Lent.{takes};
 ghost use Rattle.circuit.specs.declared.refusal.Refusal.TheVariants.{NoRoom};
+ghost use Rattle.arrival.specs.Lent.{time_of};
 ghost use Rattle.promise.specs.Machine.{machine_in};
 ghost use Rattle.slack.specs.Margin.{margin_of, MarginsIn, IsWorst, AreSmallest};
 
@@ -12,6 +14,17 @@ use circuit::{Circuit, MOST_REGISTERS, Refusal, Register};
 // As many margins as a circuit can have.
 const MOST_MARGINS: usize = 2 * MOST_REGISTERS;
 
+// The latest or the earliest time of the signal that a register takes.
+fn time_taken(a: Arrivals<'_, '_>, edge: Edge, r: usize) -> i64
+    requires { r < registers_of a.circuit }
+    ensures time { result ≡ pos (of a.entry.circuit (time_of edge) (takes a.entry.circuit.registers.now r)) }
+    ensures small { result <ℤ pos (2 ^ 34) }
+{
+    let register = Register::from(a.circuit.registers()[r]);
+    let signal = register.signal as usize;
+    a.on(edge)[signal] as i64
+}
+
 // How much a register's sum could grow and still be right; below 0, how much is missing. Of its latest time it is period
 // and early time less that and setup; of its earliest that less late time and hold, less one.
 fn margin(a: Arrivals<'_, '_>, edge: Edge, r: usize) -> i64
@@ -19,15 +32,15 @@ fn margin(a: Arrivals<'_, '_>, edge: Edge, r: usize) -> i64
     ensures { result ≡ margin_of edge (of a.entry.circuit machine_in) r }
 {
     let register = Register::from(a.circuit.registers()[r]);
-    let signal = register.signal as usize;
+    let time = time_taken(a, edge, r);
     match edge {
         Edge::Late => {
             let limit = i64::from(a.circuit.period()) + i64::from(register.early);
-            limit - (a.latest[signal] as i64 + i64::from(a.circuit.setup()))
+            limit - (time + i64::from(a.circuit.setup()))
         }
         Edge::Early => {
             let limit = i64::from(register.late) + i64::from(a.circuit.hold());
-            a.earliest[signal] as i64 - limit - 1
+            time - limit - 1
         }
     }
 }
@@ -96,6 +109,7 @@ pub fn margins(circuit: Circuit<'_>, room: &mut [i64]) -> Result<Smallest, Refus
 pub fn smallest(circuit: Circuit<'_>) -> Smallest
     ensures { AreSmallest (of circuit.entry machine_in) result }
 {
+    // There is room for any circuit's.
     let mut room = [0; MOST_MARGINS];
     let Ok(smallest) = margins(circuit, &mut room) else {
         unreachable!()

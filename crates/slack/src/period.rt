@@ -7,8 +7,8 @@ ghost use Rattle.slack.specs.Period.{IsShortest, PassedFrom, IsFrequency};
 use crate::margin::smallest;
 use circuit::Circuit;
 
-// How many picoseconds a thousandth of a second has: with a period of one, the frequency in thousandths of MHz.
-const PICOSECONDS: u64 = 1_000_000_000;
+// In picoseconds, a thousandth of a second: the period of a thousandth of a MHz.
+const MILLISECOND: u64 = 1_000_000_000;
 
 // The smallest period with which no register's input comes too late. It may be longer than a circuit's own can be.
 pub fn shortest_period(circuit: Circuit<'_>) -> u64
@@ -23,8 +23,8 @@ pub fn shortest_period(circuit: Circuit<'_>) -> u64
 // The frequency of a period in picoseconds, in thousandths of MHz and rounded down; none of a period of 0.
 pub fn frequency(period: u64) -> Option<u64>
     ensures none { IsNone result ↔ (period ≡ 0) }
-    ensures quotient { IfSome result (λ f. f ≡ PICOSECONDS / period) }
+    ensures quotient { IfSome result (λ f. f ≡ MILLISECOND / period) }
     ensures rounded_down { IfSome result (IsFrequency period) }
 {
-    PICOSECONDS.checked_div(period)
+    MILLISECOND.checked_div(period)
 }

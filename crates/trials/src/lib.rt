@@ -1,4 +1,5 @@
-// Examples that are run: tables, circuits that are looked at, the drawing, arrival times, circuits gone through time.
+// Examples that are run: tables, circuits that are looked at, the drawing, arrival times, margins,
+// circuits gone through time.
 #![tactic(auto)]
 
 #[cfg(test)]
@@ -9,5 +10,7 @@ mod bench_trials;
 mod drawing_trials;
 #[cfg(test)]
 mod look_trials;
+#[cfg(test)]
+mod slack_trials;
 #[cfg(test)]
 mod table_trials;
