@@ -1,4 +1,4 @@
--- The margins of a machine's registers: how much each of its two sums could grow and still be right.
+-- The margins of a machine's registers: how much each of a register's two sums could grow and still be right.
 use Rattle.std.specs.Prelude.{◌≡◌, ℕ, ◌+◌, ◌*◌, ◌<◌, ◌≤◌, ◌↔◌, ℤ, pos, ◌+ℤ◌, ◌-ℤ◌, ◌≤ℤ◌, ◌<ℤ◌, List, slice_index_or}
 use Rattle.arrival.specs.declared.edge.Edge.{Edge}
 use Rattle.arrival.specs.declared.edge.Edge.TheVariants.{Late, Early}
@@ -6,7 +6,7 @@ use Rattle.promise.specs.Machine.{Machine, Formed, Passed, last_change, first_ch
 use Rattle.slack.specs.declared.worst.Worst.{Worst}
 use Rattle.slack.specs.declared.worst.Smallest.{Smallest}
 
--- the margin of a register: period and early time less latest time and setup; earliest time less late time and hold, less one
+-- a register's setup margin is period and early time less latest time and setup; its hold margin is earliest time less late time and hold, less one
 abbrev pub margin_of : Edge → Machine → ℕ → ℤ
 margin_of Late m r = pos (m.period + m.early r) -ℤ pos (last_change m (m.takes r) + m.setup)
 margin_of Early m r = pos (first_change m (m.takes r)) -ℤ pos (m.late r + m.hold) -ℤ pos 1
@@ -19,7 +19,7 @@ Enough e m r = pos 0 ≤ℤ margin_of e m r
 abbrev pub PassedByMargins : Type 0
 PassedByMargins = (m : Machine) → Passed m ↔ (Formed m × ((e : Edge) (r : ℕ) → r < m.registers → Enough e m r))
 
--- a register's sum is right
+-- a register's setup sum or hold sum is right
 abbrev pub Kept : Edge → Machine → ℕ → Type 0
 Kept Late = SetupKept
 Kept Early = HoldKept
@@ -34,11 +34,11 @@ abbrev pub with_need : Edge → Machine → ℕ → Machine
 with_need Late m t = record m { setup = t }
 with_need Early m t = record m { hold = t }
 
--- with the time t in its place a register's sum is right exactly if t is at most the machine's own time and the margin
+-- with the time t in its place a register's sum is right exactly if t is at most the machine's own time and the margin together
 abbrev pub MarginIsExact : Type 0
 MarginIsExact = (e : Edge) (m : Machine) (r t : ℕ) → Kept e (with_need e m t) r ↔ (pos t ≤ℤ (pos (need e m) +ℤ margin_of e m r))
 
--- the time that has grown by the margin, or shrunk by what is missing where that is below 0, is right at the register; one more is not
+-- when that time has grown by the margin, or shrunk by what is missing, the register's sum is right; with one more it is not
 abbrev pub MarginGrows : Type 0
 MarginGrows =
     (e : Edge) (m : Machine) (r t : ℕ) → pos t ≡ pos (need e m) +ℤ margin_of e m r →

@@ -5,7 +5,7 @@ use Rattle.promise.specs.Machine.{Machine, Formed, Passed, SetupKept, HoldKept, 
 use Rattle.promise.specs.Promise.{with_period}
 use Rattle.slack.specs.Margin.{margin_of}
 
--- with another period arrival times and second margins are the same, and first margins change by as much as the period does
+-- with another period arrival times and hold margins are the same, and setup margins change by as much as the period does
 abbrev pub OtherPeriod : Type 0
 OtherPeriod =
     (m : Machine) (p : ℕ) →
@@ -13,7 +13,7 @@ OtherPeriod =
     × ((r : ℕ) → margin_of Early (with_period m p) r ≡ margin_of Early m r)
     × ((r : ℕ) → margin_of Late (with_period m p) r -ℤ pos p ≡ margin_of Late m r -ℤ pos m.period)
 
--- with the period p the first sum is right at every register
+-- with the period p the setup sum is right at every register
 abbrev pub SetupKeptWith : Machine → ℕ → Type 0
 SetupKeptWith m p = (r : ℕ) → r < m.registers → SetupKept (with_period m p) r
 
@@ -21,11 +21,11 @@ SetupKeptWith m p = (r : ℕ) → r < m.registers → SetupKept (with_period m p
 abbrev pub IsShortest : Machine → ℕ → Type 0
 IsShortest m p = SetupKeptWith m p × ((q : ℕ) → SetupKeptWith m q → p ≤ q)
 
--- the shortest period is that with which the first sum is right at every register, and which is 0 or with one less of which it is not
+-- that is: with p it is right, and with one less it is not, or p is 0
 abbrev pub OneLessIsNot : Type 0
 OneLessIsNot = (m : Machine) (p : ℕ) → IsShortest m p ↔ (SetupKeptWith m p × ((q : ℕ) → q + 1 ≡ p → SetupKeptWith m q → ⊥))
 
--- the periods with which a machine is passed are those from s on, where the second sum is right at every register; else none
+-- the periods with which a machine is passed are those from s on, where the hold sum is right at every register; else there is none
 abbrev pub PassedFrom : Machine → ℕ → Type 0
 PassedFrom m s = (p : ℕ) → Passed (with_period m p) ↔ ((s ≤ p) × ((r : ℕ) → r < m.registers → HoldKept m r))
 

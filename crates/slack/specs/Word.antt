@@ -13,8 +13,8 @@ use Rattle.slack.specs.Margin.{margin_of, Enough}
 abbrev pub FirstMissing : Edge → Machine → ℕ → Type 0
 FirstMissing e m r = AllOrFirst (Enough e m) m.registers (Some r)
 
--- passed: no margin is below 0. Too late: the first register whose first margin is. Too early: no first margin is, and the first register
--- whose second margin is
+-- passed: no margin is below 0. Too late: the first register whose setup margin is. Too early: no setup margin is, and the first register
+-- whose hold margin is. The two sums that are told differ by the margin
 abbrev pub ByMargins : Machine → Verdict → Type 0
 ByMargins m verdict.Passed = (e : Edge) (r : ℕ) → r < m.registers → Enough e m r
 ByMargins m (verdict.TooLate x) = FirstMissing Late m x.register × (margin_of Late m x.register ≡ pos x.limit -ℤ pos x.arrival)

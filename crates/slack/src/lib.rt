@@ -1,4 +1,4 @@
-// Margins of the registers of a circuit, and the shortest period with which none of the first kind is below 0.
+// Margins of the registers of a circuit, and the shortest period with which no setup margin is below 0.
 #![tactic(auto)]
 
 ghost use Rattle.slack.specs.Margin.{PassedByMargins, MarginIsExact, MarginGrows};
@@ -20,14 +20,14 @@ pub fn passed_by_margins() -> u8
     0
 }
 
-// With another setup or hold time a register's sum is right exactly if that is at most the time and the margin.
+// With another setup or hold time a register's sum is right exactly if that is at most the machine's own and the margin.
 pub fn margin_is_exact() -> u8
     ensures { MarginIsExact }
 {
     0
 }
 
-// Grown by the margin a register's sum is right, and by one more it is not.
+// When the setup or hold time has grown by the margin a register's sum is right, and with one more it is not.
 pub fn margin_grows() -> u8
     ensures { MarginGrows }
 {
@@ -41,21 +41,21 @@ pub fn verdict_by_margins() -> u8
     0
 }
 
-// With another period arrival times and second margins are the same, and first margins change by as much.
+// With another period arrival times and hold margins are the same, and setup margins change by as much.
 pub fn other_period() -> u8
     ensures { OtherPeriod }
 {
     0
 }
 
-// With one less than the shortest period the first sum is not right at every register.
+// With one less than the shortest period the setup sum is not right at every register.
 pub fn one_less_is_not() -> u8
     ensures { OneLessIsNot }
 {
     0
 }
 
-// A machine is passed from its shortest period on, where the second sum is right at every register.
+// A machine is passed from its shortest period on, where the hold sum is right at every register.
 pub fn passed_from_shortest() -> u8
     ensures { PassedFromShortest }
 {

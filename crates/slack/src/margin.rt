@@ -15,7 +15,7 @@ use circuit::{Circuit, MOST_REGISTERS, Refusal, Register};
 const MOST_MARGINS: usize = 2 * MOST_REGISTERS;
 
 // The latest or the earliest time of the signal that a register takes.
-fn time_taken(a: Arrivals<'_, '_>, edge: Edge, r: usize) -> i64
+fn arrival_at(a: Arrivals<'_, '_>, edge: Edge, r: usize) -> i64
     requires { r < registers_of a.circuit }
     ensures time { result ≡ pos (of a.entry.circuit (time_of edge) (takes a.entry.circuit.registers.now r)) }
     ensures small { result <ℤ pos (2 ^ 34) }
@@ -25,22 +25,22 @@ fn time_taken(a: Arrivals<'_, '_>, edge: Edge, r: usize) -> i64
     a.on(edge)[signal] as i64
 }
 
-// How much a register's sum could grow and still be right; below 0, how much is missing. Of its latest time it is period
-// and early time less that and setup; of its earliest that less late time and hold, less one.
+// How much a register's sum could grow and still be right; below 0, how much is missing. The setup margin is period and
+// early time less latest time and setup, the hold margin earliest time less late time and hold, less one.
 fn margin(a: Arrivals<'_, '_>, edge: Edge, r: usize) -> i64
     requires { r < registers_of a.circuit }
     ensures { result ≡ margin_of edge (of a.entry.circuit machine_in) r }
 {
     let register = Register::from(a.circuit.registers()[r]);
-    let time = time_taken(a, edge, r);
+    let arrival = arrival_at(a, edge, r);
     match edge {
         Edge::Late => {
             let limit = i64::from(a.circuit.period()) + i64::from(register.early);
-            limit - (time + i64::from(a.circuit.setup()))
+            limit - (arrival + i64::from(a.circuit.setup()))
         }
         Edge::Early => {
             let limit = i64::from(register.late) + i64::from(a.circuit.hold());
-            time - limit - 1
+            arrival - limit - 1
         }
     }
 }
@@ -53,6 +53,7 @@ fn worst(a: Arrivals<'_, '_>, edge: Edge) -> Worst
         register: 0,
         margin: margin(a, edge, 0),
     };
+    // A chain by `min_by_key` would end in an Option, where there always is a register.
     for register in 1..a.circuit.register_count() {
         let margin = margin(a, edge, register);
         if margin < worst.margin {
@@ -83,8 +84,9 @@ fn fill(a: Arrivals<'_, '_>, room: &mut [i64])
     }
 }
 
-// The margins of every register, of register `r` at `2 * r` and `2 * r + 1` of the lent room, and the smallest of each
-// kind. Room for fewer is refused, and room for more keeps the rest of what it had.
+// Writes both margins of every register, the setup margin of register `r` at `2 * r` of the lent room and its hold margin
+// behind it, and answers the smallest of each kind. Room for fewer is refused, and room for more keeps the rest of what it
+// had.
 pub fn margins(circuit: Circuit<'_>, room: &mut [i64]) -> Result<Smallest, Refusal>
     ensures { MatchResult result
         (λ s. (2 * registers_of circuit.entry ≤ length room.old)

@@ -15,7 +15,7 @@ pub fn shortest_period(circuit: Circuit<'_>) -> u64
     ensures shortest { IsShortest (of circuit.entry machine_in) result }
     ensures passed { PassedFrom (of circuit.entry machine_in) result }
 {
-    // Where the period changes, every margin of this kind changes by as much.
+    // A setup margin changes by as much as the period does.
     let shortest = i64::from(circuit.period()) - smallest(circuit).setup.margin;
     shortest.max(0) as u64
 }

@@ -7,7 +7,7 @@ pub struct Worst {
     pub margin: i64,
 }
 
-// The smallest margins of both kinds: of the sum that the setup time is in, and of that with the hold time.
+// The smallest setup margin and the smallest hold margin.
 #[derive(Clone, Copy, PartialEq, Debug)]
 pub struct Smallest {
     pub setup: Worst,

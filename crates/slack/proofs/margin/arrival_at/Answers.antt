@@ -1,7 +1,7 @@
 use Rattle.std.proofs.Common.{ap, ◌∙◌, arith}
 use Rattle.std.proofs.lemmas.Int.{ints}
 use Rattle.slack.proofs.Times.{taken_time}
-use Rattle.slack.proofs.margin.time_taken.Goals as goal
+use Rattle.slack.proofs.margin.arrival_at.Goals as goal
 
 pub overflow_cast-result : goal.overflow_cast-result
 overflow_cast-result c =
