@@ -1,5 +1,5 @@
 // The shortest period of a circuit, and frequencies.
-ghost use Rattle.std.specs.Prelude.{◌≡◌, ◌/◌, ◌<◌, IfSome, IsNone, ◌↔◌};
+ghost use Rattle.std.specs.Prelude.{◌≡◌, ◌/◌, IfSome, IsNone, ◌↔◌};
 ghost use Rattle.circuit.specs.Checked.{of};
 ghost use Rattle.promise.specs.Machine.{machine_in};
 ghost use Rattle.slack.specs.Period.{IsShortest, PassedFrom, IsFrequency};
