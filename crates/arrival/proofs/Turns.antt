@@ -27,9 +27,9 @@ adds_little Late gates k a b small = omega (arith, small (7 * k + 4), small (7 *
 adds_little Early gates k a b small = omega (arith, small (7 * k + 3), small (7 * k + 5))
 
 -- no time is above the sources' bound and the largest number for each gate
-pub bounded : (e : Edge) (n : ℕ) (gates : List ℕ) → ((i : ℕ) → get_or gates i 0 ≤ 1000000) → Sound (circuit_in n gates) → (s : ℕ → ℕ) → ((i : ℕ) → i < n → s i ≤ 2 ^ 63) →
-    (k : ℕ) → k < n + gate_count gates → arrival e (circuit_in n gates) s k ≤ 2 ^ 63 + 1000000 * (k + 1 - n)
-bounded e n gates small sound s sources k h = each_signal (circuit_in n gates) sound (λ k. arrival e (circuit_in n gates) s k ≤ 2 ^ 63 + 1000000 * (k + 1 - n))
+pub bounded : (limit : ℕ) (e : Edge) (n : ℕ) (gates : List ℕ) → ((i : ℕ) → get_or gates i 0 ≤ 1000000) → Sound (circuit_in n gates) → (s : ℕ → ℕ) → ((i : ℕ) → i < n → s i ≤ limit) →
+    (k : ℕ) → k < n + gate_count gates → arrival e (circuit_in n gates) s k ≤ limit + 1000000 * (k + 1 - n)
+bounded limit e n gates small sound s sources k h = each_signal (circuit_in n gates) sound (λ k. arrival e (circuit_in n gates) s k ≤ limit + 1000000 * (k + 1 - n))
     (λ i h. omega (arith, arrival_in e (circuit_in n gates) sound s i h, sources i h))
     (λ k h p q.
     let l : k < gate_count gates = omega (arith, gates_in_length gates) in
@@ -52,8 +52,8 @@ module _ (e : Edge) (n : ℕ) (gates : List ℕ) (few : gate_count gates ≤ 163
     ready =
         let b = inputs_before n gates sound k h in
         rw is_gate (
-          omega (arith, sofar.filled _ b.0, bounded e n gates small sound (λ i. get_or before i 0) sources (get_or gates (7 * k) 0) (omega arith)),
-          omega (arith, sofar.filled _ b.1, bounded e n gates small sound (λ i. get_or before i 0) sources (get_or gates (7 * k + 1) 0) (omega arith)),
+          omega (arith, sofar.filled _ b.0, bounded (2 ^ 63) e n gates small sound (λ i. get_or before i 0) sources (get_or gates (7 * k) 0) (omega arith)),
+          omega (arith, sofar.filled _ b.1, bounded (2 ^ 63) e n gates small sound (λ i. get_or before i 0) sources (get_or gates (7 * k + 1) 0) (omega arith)),
         )
 
     pub turn : (v : ℕ) → n + k < length now → v ≡ gate_time e 0 gate (get_or now gate.one 0) (get_or now gate.two 0) → Filled 0 (n + (k + 1)) times before (set now (n + k) v)
@@ -70,17 +70,17 @@ over_registers e gates registers times before mid after sound first then = recor
   rest = λ k h. then.rest k h ∙ first.rest k (omega arith);
 }
 
--- no register's time is too large
-pub small_source : (e : Edge) (registers times : List ℕ) (r : ℕ) → ((i : ℕ) → get_or registers i 0 ≤ 1000000) → ((i : ℕ) → get_or times i 0 ≤ 1000000) → source e registers times r ≤ 2 ^ 63
+-- no register's time is above twice the largest number
+pub small_source : (e : Edge) (registers times : List ℕ) (r : ℕ) → ((i : ℕ) → get_or registers i 0 ≤ 1000000) → ((i : ℕ) → get_or times i 0 ≤ 1000000) → source e registers times r ≤ 2000000
 small_source Late registers times r small_r small_t = omega (arith, small_r (3 * r + 2), small_t 2)
 small_source Early registers times r small_r small_t = omega (arith, small_r (3 * r + 1), small_t 1)
 
--- no time of a whole circuit's signal is too large to add a delay to
+-- the time of a whole circuit's signal takes few bits, so that sums and differences of some fit
 pub time_small : (e : Edge) (gates registers times : List ℕ) → gate_count gates ≤ 16384 → ((p : ℕ) → Small gates registers times p) → Sound (drawn gates registers) →
-    (k : ℕ) → k < signal_count gates registers → time_of e gates registers times k < 2 ^ 64 - 2 ^ 32
+    (k : ℕ) → k < signal_count gates registers → time_of e gates registers times k < 2 ^ 34
 time_small e gates registers times few small sound k h =
     omega (
       arith,
-      bounded e (register_count registers) gates (small_gates gates registers times small) sound (source e registers times)
+      bounded 2000000 e (register_count registers) gates (small_gates gates registers times small) sound (source e registers times)
           (λ r l. small_source e registers times r (small_registers gates registers times small) (small_times gates registers times small)) k h,
     )

@@ -7,10 +7,13 @@ ghost use Rattle.arrival.specs.Lent.{source, SmallSource, OverSources, OverRegis
 ghost use Rattle.arrival.specs.declared.edge.Edge.TheVariants.{Late, Early};
 
 use crate::edge::Edge;
-use circuit::{Circuit, Gate, Refusal, Register};
+use circuit::{Circuit, Gate, MOST_GATES, MOST_REGISTERS, Refusal, Register};
 
 // Times of sources are at most this, so that no sum overflows.
 pub const LARGEST_SOURCE: u64 = 0x8000_0000_0000_0000;
+
+// As many signals as a circuit can have: room for the times of any.
+pub const MOST_SIGNALS: usize = MOST_REGISTERS + MOST_GATES;
 
 // The times of all gates, over the times of `n` sources with which both slices begin. Each turn loads one gate.
 fn fill_gates(circuit: Circuit<'_>, n: usize, latest: &mut [u64], earliest: &mut [u64])

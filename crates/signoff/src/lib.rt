@@ -8,15 +8,12 @@ ghost use Rattle.circuit.specs.Refused.{AllOrFirst};
 ghost use Rattle.path.specs.Path.{PathTold, PathRefused};
 ghost use Rattle.signoff.specs.Verdict.{SumsOf, SumsKept, Judged, Answers};
 
-use arrival::{Arrivals, Edge, fill_from_registers};
-use circuit::{Circuit, MOST_GATES, MOST_REGISTERS, Numbers, Refusal, Register};
+use arrival::{Arrivals, Edge, MOST_SIGNALS, fill_from_registers};
+use circuit::{Circuit, Numbers, Refusal, Register};
 
 mod verdict;
 
 pub use verdict::{Miss, Verdict};
-
-// As many signals as a circuit can have.
-const MOST_SIGNALS: usize = MOST_REGISTERS + MOST_GATES;
 
 // Two sums of a register that are compared, and the signal that it takes.
 #[derive(Clone, Copy)]

@@ -13,11 +13,11 @@ const TIMES: [u32; 5] = [20, 2, 4, 3, 1];
 
 pub(crate) const INVERTER: [u32; 7] = [0, 0, 1, 3, 8, 3, 8];
 
-const EARLY_INVERTER: [u32; 7] = [0, 0, 1, 1, 8, 1, 8];
+pub(crate) const EARLY_INVERTER: [u32; 7] = [0, 0, 1, 1, 8, 1, 8];
 
 pub(crate) const COUNTER: [u32; 14] = [0, 0, 1, 3, 8, 3, 8, 0, 1, 6, 4, 9, 2, 7];
 
-const AND_NOT: [u32; 14] = [0, 1, 8, 3, 5, 3, 5, 2, 2, 1, 3, 6, 3, 6];
+pub(crate) const AND_NOT: [u32; 14] = [0, 1, 8, 3, 5, 3, 5, 2, 2, 1, 3, 6, 3, 6];
 
 // The circuit of these numbers.
 pub(crate) fn checked<'a>(

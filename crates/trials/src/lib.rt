@@ -1,5 +1,5 @@
-// Examples that are run: tables, circuits that are looked at, the drawing, arrival times, circuits gone through time, texts
-// of delays.
+// Examples that are run: tables, circuits that are looked at, the drawing, arrival times, margins, circuits gone through
+// time, texts of delays.
 #![tactic(auto)]
 
 #[cfg(test)]
@@ -12,5 +12,7 @@ mod delays_trials;
 mod drawing_trials;
 #[cfg(test)]
 mod look_trials;
+#[cfg(test)]
+mod slack_trials;
 #[cfg(test)]
 mod table_trials;

@@ -1,0 +1,3 @@
+pub mod MarginLaws
+pub mod PeriodLaws
+pub mod Times

@@ -1,0 +1,3 @@
+pub mod Margin
+pub mod Period
+pub mod Word

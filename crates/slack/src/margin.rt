@@ -1,0 +1,120 @@
+// The margins of a circuit's registers.
+ghost use Rattle.std.specs.Prelude.{◌≡◌, ◌*◌, ◌^◌, ◌<◌, ◌≤◌, length, MatchResult, pos, ◌<ℤ◌};
+ghost use Rattle.circuit.specs.Checked.{of, registers_of};
+ghost use Rattle.circuit.specs.Lent.{takes};
+ghost use Rattle.circuit.specs.declared.refusal.Refusal.TheVariants.{NoRoom};
+ghost use Rattle.arrival.specs.Lent.{time_of};
+ghost use Rattle.promise.specs.Machine.{machine_in};
+ghost use Rattle.slack.specs.Margin.{margin_of, MarginsIn, IsWorst, AreSmallest};
+
+use crate::worst::{Smallest, Worst};
+use arrival::{Arrivals, Edge, MOST_SIGNALS, fill_from_registers};
+use circuit::{Circuit, MOST_REGISTERS, Refusal, Register};
+
+// As many margins as a circuit can have.
+const MOST_MARGINS: usize = 2 * MOST_REGISTERS;
+
+// The latest or the earliest time of the signal that a register takes.
+fn arrival_at(a: Arrivals<'_, '_>, edge: Edge, r: usize) -> i64
+    requires { r < registers_of a.circuit }
+    ensures time { result ≡ pos (of a.entry.circuit (time_of edge) (takes a.entry.circuit.registers.now r)) }
+    ensures small { result <ℤ pos (2 ^ 34) }
+{
+    let register = Register::from(a.circuit.registers()[r]);
+    let signal = register.signal as usize;
+    a.on(edge)[signal] as i64
+}
+
+// How much a register's sum could grow and still be right; below 0, how much is missing. The setup margin is period and
+// early time less latest time and setup, the hold margin earliest time less late time and hold, less one.
+fn margin(a: Arrivals<'_, '_>, edge: Edge, r: usize) -> i64
+    requires { r < registers_of a.circuit }
+    ensures { result ≡ margin_of edge (of a.entry.circuit machine_in) r }
+{
+    let register = Register::from(a.circuit.registers()[r]);
+    let arrival = arrival_at(a, edge, r);
+    match edge {
+        Edge::Late => {
+            let limit = i64::from(a.circuit.period()) + i64::from(register.early);
+            limit - (arrival + i64::from(a.circuit.setup()))
+        }
+        Edge::Early => {
+            let limit = i64::from(register.late) + i64::from(a.circuit.hold());
+            arrival - limit - 1
+        }
+    }
+}
+
+// The smallest margin of one kind.
+fn worst(a: Arrivals<'_, '_>, edge: Edge) -> Worst
+    ensures { IsWorst edge (of a.entry.circuit machine_in) (registers_of a.entry.circuit) result }
+{
+    let mut worst = Worst {
+        register: 0,
+        margin: margin(a, edge, 0),
+    };
+    // A chain by `min_by_key` would end in an Option, where there always is a register.
+    for register in 1..a.circuit.register_count() {
+        let margin = margin(a, edge, register);
+        if margin < worst.margin {
+            worst = Worst { register, margin };
+        }
+    }
+    worst
+}
+
+// The smallest margin of each kind, where arrival times are known.
+fn smallest_of(a: Arrivals<'_, '_>) -> Smallest
+    ensures { AreSmallest (of a.entry.circuit machine_in) result }
+{
+    Smallest {
+        setup: worst(a, Edge::Late),
+        hold: worst(a, Edge::Early),
+    }
+}
+
+// Writes both margins of every register.
+fn fill(a: Arrivals<'_, '_>, room: &mut [i64])
+    requires { 2 * registers_of a.circuit ≤ length room.old }
+    ensures { MarginsIn (of a.entry.circuit machine_in) (registers_of a.entry.circuit) room.old room.new }
+{
+    for r in 0..a.circuit.register_count() {
+        room[2 * r] = margin(a, Edge::Late, r);
+        room[2 * r + 1] = margin(a, Edge::Early, r);
+    }
+}
+
+// Writes both margins of every register, the setup margin of register `r` at `2 * r` of the lent room and its hold margin
+// behind it, and answers the smallest of each kind. Room for fewer is refused, and room for more keeps the rest of what it
+// had.
+pub fn margins(circuit: Circuit<'_>, room: &mut [i64]) -> Result<Smallest, Refusal>
+    ensures { MatchResult result
+        (λ s. (2 * registers_of circuit.entry ≤ length room.old)
+        × MarginsIn (of circuit.entry machine_in) (registers_of circuit.entry) room.old room.new
+        × AreSmallest (of circuit.entry machine_in) s)
+        (λ e. (length room.old < 2 * registers_of circuit.entry) × (e ≡ NoRoom (2 * registers_of circuit.entry)) × (room.new ≡ room.old)) }
+{
+    let needed = 2 * circuit.register_count();
+    if room.len() < needed {
+        return Err(Refusal::NoRoom(needed));
+    }
+    // As long as any circuit needs, and no heap.
+    let mut latest = [0; MOST_SIGNALS];
+    let mut earliest = [0; MOST_SIGNALS];
+    fill_from_registers(circuit, &mut latest, &mut earliest)?;
+    let a = Arrivals::new(circuit, &latest, &earliest);
+    fill(a, room);
+    Ok(smallest_of(a))
+}
+
+// The smallest margin of each kind.
+pub fn smallest(circuit: Circuit<'_>) -> Smallest
+    ensures { AreSmallest (of circuit.entry machine_in) result }
+{
+    // There is room for any circuit's.
+    let mut room = [0; MOST_MARGINS];
+    let Ok(smallest) = margins(circuit, &mut room) else {
+        unreachable!()
+    };
+    smallest
+}
