@@ -107,6 +107,15 @@ pub still_not : (f : Wave) (a e u : ℕ) → a ≤ u → u < e → (f u ≡ f a 
 unfolding still
 still_not f a e u l h ne = let st : steady f (f a) a (e - a) ≡ false = steady_not f (f a) a (e - a) u l (omega arith) ne in rw st
 
+-- numbers each of which is above the one before it
+module _ (f : ℕ → ℕ) (up : (n : ℕ) → f n < f (suc n)) where
+  apart : (n d : ℕ) → f n + d ≤ f (n + d)
+  apart n zero = let e : n + 0 ≡ n = omega arith in rw e (omega arith)
+  apart n (suc d) = let e : n + suc d ≡ suc (n + d) = omega arith in rw e (omega (arith, apart n d, up (n + d)))
+
+  pub later : (n k : ℕ) → n ≤ k → f n + (k - n) ≤ f k
+  later n k l = let e : n + (k - n) ≡ k = omega arith in rw e at (apart n (k - n))
+
 module _ (m : Machine) (x : Told) (ok : Runnable m) (may : MayTell m x) where
   abbrev c : Circuit
   c = m.circuit
@@ -128,12 +137,8 @@ module _ (m : Machine) (x : Told) (ok : Runnable m) (may : MayTell m x) where
     | inr q ↦ rw q (elim (cycle_from r t h) [ inl z ↦ inl z | inr l ↦ inr (omega arith) ])
   ]
 
-  pub clocks_apart : (r n d : ℕ) → r < m.registers → x.clock n r + d ≤ x.clock (n + d) r
-  clocks_apart r n zero h = let e : n + 0 ≡ n = omega arith in rw e (omega arith)
-  clocks_apart r n (suc d) h = let e : n + suc d ≡ suc (n + d) = omega arith in rw e (omega (arith, clocks_apart r n d h, may.in_turn (n + d) r h))
-
-  pub clocks_later : (r n k : ℕ) → r < m.registers → n ≤ k → x.clock n r ≤ x.clock k r
-  clocks_later r n k h l = let e : n + (k - n) ≡ k = omega arith in omega (arith, rw e at (clocks_apart r n (k - n) h))
+  pub clocks_later : (r n k : ℕ) → r < m.registers → n ≤ k → x.clock n r + (k - n) ≤ x.clock k r
+  clocks_later r n k h = later (λ (i : ℕ). x.clock i r) (λ i. may.in_turn i r h) n k
 
   pub cycle_is : (r n t : ℕ) → r < m.registers → x.clock n r + m.output_late ≤ t → t < x.clock (suc n) r + m.output_late → cycle m x r (suc t) ≡ n
   cycle_is r n t h a z = elim (cases_lt (cycle m x r (suc t)) n) [

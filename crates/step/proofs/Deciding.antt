@@ -12,7 +12,7 @@ use Rattle.promise.specs.Machine.{Machine, machine_in}
 use Rattle.history.specs.declared.history.History.{History}
 use Rattle.history.specs.Kept.{kept}
 use Rattle.simulation.specs.Simulated.{Told, cycle, bits, still, settled, first_seen, end_seen, shown_of, shows_at, run_waves, run_bits}
-use Rattle.simulation.proofs.Running.{cycle_until, clocks_apart, register_shows, still_same, still_kept, still_not, some_seen}
+use Rattle.simulation.proofs.Running.{cycle_until, clocks_later, register_shows, still_same, still_kept, still_not, some_seen}
 use Rattle.step.specs.Lent.{TellsRegister}
 use Rattle.step.specs.Stands.{Wide, Ready, Remembers, InCycle, Does, RegisterGoes, cycle_of}
 use Rattle.step.specs.declared.state.State.{State}
@@ -43,7 +43,7 @@ module _ (m : Machine) (x : Told) (ready : Ready m x) (t q n : ℕ) (h : q < m.r
 
   -- no more cycles than moments
   pub few_cycles : suc n ≤ x.clock (suc n) q
-  few_cycles = let e : 0 + suc n ≡ suc n = omega arith in omega (arith, rw e at (clocks_apart m x ready.runnable ready.may q 0 (suc n) h))
+  few_cycles = omega (arith, clocks_later m x ready.runnable ready.may q 0 (suc n) h (omega arith))
 
   shows_now : (k : ℕ) (bit z : Bool) → cycle m x q (suc t) ≡ k → bit ≡ run_bits m x k q →
       z ≡ shown_of m (x.clock k q) (x.clock (suc k) q) t bit (x.show q t) → z ≡ run_waves m x q t
