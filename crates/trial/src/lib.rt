@@ -2,6 +2,7 @@
 #![tactic(auto)]
 
 mod going;
+mod looking;
 mod preparing;
 mod room;
 mod running;
