@@ -1,5 +1,5 @@
 -- A bench with what it is told, before a moment.
-use Rattle.std.specs.Prelude.{◌≡◌, ℕ, suc, ◌+◌, ◌-◌, ◌*◌, ◌/◌, ◌^◌, ◌<◌, ◌≤◌, true, ◌⊎◌, List, length, Result, is_ok, vec_items}
+use Rattle.std.specs.Prelude.{◌≡◌, ℕ, suc, ◌+◌, ◌-◌, ◌*◌, ◌/◌, ◌^◌, ◌<◌, ◌≤◌, true, List, length, Result, is_ok, vec_items}
 use Rattle.circuit.specs.Lent.{register_count, early, late, period, setup, output_late}
 use Rattle.circuit.specs.declared.refusal.Refusal.{Refusal}
 use Rattle.promise.specs.Machine.{machine_in, Formed}

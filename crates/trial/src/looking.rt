@@ -10,20 +10,6 @@ use circuit::Register;
 use step::{Clocks, must_show, settled};
 
 impl Trial<'_> {
-    // How many moments have gone.
-    pub fn moment(&self) -> u64
-        ensures { result ≡ self.now.moment }
-    {
-        self.moment
-    }
-
-    // How many cycles are done.
-    pub fn done(&self) -> u64
-        ensures { result ≡ self.now.done }
-    {
-        self.done
-    }
-
     // What signal `k` shows at the last moment that has gone; false before one has, and of a signal that is not there.
     pub fn signal(&self, k: usize) -> bool
         ensures { result ≡ at_last self.now (signals_of self.now.bench.circuit) k (run_waves (machine_of self.now) (told_to self.now) k) }

@@ -1,0 +1,20 @@
+// How far a run has come.
+ghost use Rattle.std.specs.Prelude.{◌≡◌};
+
+use crate::running::Trial;
+
+impl Trial<'_> {
+    // How many moments have gone.
+    pub fn moment(&self) -> u64
+        ensures { result ≡ self.now.moment }
+    {
+        self.moment
+    }
+
+    // How many cycles are done.
+    pub fn done(&self) -> u64
+        ensures { result ≡ self.now.done }
+    {
+        self.done
+    }
+}
