@@ -2,8 +2,16 @@
 ghost use Rattle.std.specs.Prelude.{◌≡◌};
 
 use crate::running::Trial;
+use clocks::Bench;
 
-impl Trial<'_> {
+impl<'a> Trial<'a> {
+    // What it is a run of.
+    pub fn bench(&self) -> Bench<'a>
+        ensures { result ≡ self.now.bench }
+    {
+        self.bench
+    }
+
     // How many moments have gone.
     pub fn moment(&self) -> u64
         ensures { result ≡ self.now.moment }
