@@ -1,6 +1,7 @@
 -- A run that is gone on with, beside its drawing.
-use Rattle.std.specs.Prelude.{◌≡◌, ℕ, suc, ◌<◌, Bool, true, false, vec_items, slice_index_or}
+use Rattle.std.specs.Prelude.{◌≡◌, ℕ, suc, ◌<◌, Bool, true, false, vec_items}
 use Rattle.circuit.specs.Checked.{registers_of}
+use Rattle.drawing.specs.Lent.{bit_at}
 use Rattle.promise.specs.Machine.{Passed, drawing}
 use Rattle.simulation.specs.Simulated.{run_bits}
 use Rattle.trial.specs.Made.{machine_of, told_to, Stepped}
@@ -23,7 +24,7 @@ pub record Watched (y y' : Watch) : Type 0 where
   pub one_more : y'.trial.done ≡ suc y.trial.done
   pub held : BitsOf (registers_of y.trial.bench.circuit) (run_bits (machine_of y.trial) (told_to y.trial) (suc y.trial.done)) (vec_items y'.held)
   pub drawn : BitsOf (registers_of y.trial.bench.circuit) (drawing (machine_of y.trial) (told_to y.trial).start (suc y.trial.done)) (vec_items y'.drawn)
-  pub passed : Passed (machine_of y.trial) → (q : ℕ) → q < registers_of y.trial.bench.circuit → slice_index_or (vec_items y'.held) q false ≡ slice_index_or (vec_items y'.drawn) q false
+  pub passed : Passed (machine_of y.trial) → (q : ℕ) → q < registers_of y.trial.bench.circuit → bit_at (vec_items y'.held) q ≡ bit_at (vec_items y'.drawn) q
 
 -- the answer to the call for one more cycle: it is done, or all were that the script asks for, and nothing changed
 abbrev pub CycleWatched : (y y' : Watch) → Bool → Type 0

@@ -11,12 +11,19 @@ use clocks::{Bench, start_of};
 use std::alloc::{AllocError, Global};
 use trial::{Stop, Trial, prepare};
 
+// A register's bit at the start.
+fn start_bit(bench: Bench<'_>, r: usize) -> bool
+    ensures { result ≡ of bench.entry.circuit (start_told bench.entry.script.now) r }
+{
+    start_of(bench.script, r)
+}
+
 // The registers' bits at the start.
 fn start_bits(heap: Global, bench: Bench<'_>) -> Result<Vec<bool>, AllocError>
     ensures { IfOk result (λ v. BitsOf (registers_of bench.entry.circuit) (of bench.entry.circuit (start_told bench.entry.script.now)) (vec_items v)) }
 {
     (0..bench.circuit.register_count())
-        .map(|r| start_of(bench.script, r))
+        .map(|r| start_bit(bench, r))
         .collect(heap)
 }
 

@@ -1,6 +1,7 @@
 // A run gone on with, beside its drawing.
-ghost use Rattle.std.specs.Prelude.{◌≡◌, None, vec_items};
+ghost use Rattle.std.specs.Prelude.{◌≡◌, min, None, length, vec_items};
 ghost use Rattle.circuit.specs.Checked.{registers_of};
+ghost use Rattle.drawing.specs.Lent.{bit_at};
 ghost use Rattle.promise.specs.Machine.{Passed, drawing};
 ghost use Rattle.simulation.specs.Simulated.{run_bits};
 ghost use Rattle.trial.specs.Made.{machine_of, told_to};
@@ -8,7 +9,17 @@ ghost use Rattle.watch.specs.Bits.{BitsOf, FirstDifference};
 ghost use Rattle.watch.specs.Watched.{WentOn, CycleWatched};
 
 use crate::watch::Watch;
+use drawing::cycle;
 use trial::Trial;
+
+// The first place at which bits differ.
+fn first_other(held: &[bool], drawn: &[bool]) -> Option<usize>
+    ensures { FirstDifference (min (length held.now) (length drawn.now)) (bit_at held.now) (bit_at drawn.now) result }
+{
+    held.iter()
+        .zip(drawn.iter())
+        .position(|(held, drawn)| held != drawn)
+}
 
 impl<'a> Watch<'a> {
     // The run.
@@ -39,10 +50,7 @@ impl<'a> Watch<'a> {
         ensures first { FirstDifference (registers_of self.now.trial.bench.circuit) (run_bits (machine_of self.now.trial) (told_to self.now.trial) self.now.trial.done) (drawing (machine_of self.now.trial) (told_to self.now.trial).start self.now.trial.done) result }
         ensures passed { Passed (machine_of self.now.trial) → result ≡ None }
     {
-        self.held
-            .iter()
-            .zip(self.drawn.iter())
-            .position(|(held, drawn)| held != drawn)
+        first_other(&self.held, &self.drawn)
     }
 
     // One moment more, true; or false where the next cycle is done, as `Trial::step`.
@@ -57,11 +65,10 @@ impl<'a> Watch<'a> {
     pub fn cycle(&mut self) -> bool
         ensures { CycleWatched self.old self.new result }
     {
-        let went = matches!(self.trial.cycle(&mut self.held), Ok(true));
-        if went {
-            let circuit = self.trial.bench().circuit;
-            return drawing::cycle(circuit, &mut self.drawn, &mut self.signals).is_ok();
-        }
-        false
+        let Ok(true) = self.trial.cycle(&mut self.held) else {
+            return false;
+        };
+        let circuit = self.trial.bench().circuit;
+        cycle(circuit, &mut self.drawn, &mut self.signals).is_ok()
     }
 }
