@@ -11,3 +11,5 @@ mod drawing_trials;
 mod look_trials;
 #[cfg(test)]
 mod table_trials;
+#[cfg(test)]
+mod watch_trials;
