@@ -1,1 +1,2 @@
 pub mod Nexts
+pub mod Coming

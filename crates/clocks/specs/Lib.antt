@@ -1,1 +1,2 @@
 pub mod Benches
+pub mod Ticking

@@ -1,5 +1,5 @@
 -- A simulated run is one that the machine can make.
-use Rattle.std.proofs.Common.{◌≡◌, ℕ, zero, suc, ◌+◌, ◌-◌, ◌<◌, ◌≤◌, Bool, true, false, ◌&&◌, leb, ◌⊎◌, length, sym, refl, ap, ◌∙◌, ap₂, inl, inr, arith}
+use Rattle.std.proofs.Common.{◌≡◌, ℕ, zero, suc, ◌+◌, ◌-◌, ◌<◌, ◌≤◌, Bool, true, false, ◌&&◌, leb, ◌⊎◌, Option, Some, None, unwrap_or, length, sym, refl, ap, ◌∙◌, ap₂, inl, inr, arith}
 use Rattle.std.proofs.lemmas.Bool.{ne_eqb, eq-eqb, cases_lt, cases_eq, le-leb, lt-ltb, leb-true, leb-false, cases_Bool, and_from, and_left, and_right}
 use Rattle.circuit.specs.Gate.{output}
 use Rattle.circuit.specs.Circuit.{Circuit, gate, signals, Sound}
@@ -10,7 +10,7 @@ use Rattle.promise.specs.Run.{Run}
 use Rattle.promise.specs.Promise.{Delays}
 use Rattle.promise.proofs.Going.{in_order}
 use Rattle.promise.proofs.Keeping.{promise_kept}
-use Rattle.simulation.specs.Simulated.{Told, waves, agrees, steady, settled, first_seen, end_seen, bits, cycle, shown_of, shows_at, shown_before, run_waves, run_bits, MayTell, Runnable}
+use Rattle.simulation.specs.Simulated.{Told, waves, agrees, steady, still, settled, first_seen, end_seen, bits, cycle, shown_of, shows_at, shown_before, run_waves, run_bits, MayTell, Runnable}
 use Rattle.simulation.specs.Theorems.{SimulatedIsRun, SimulatedAsDrawn}
 
 -- a source's wave is as given
@@ -64,17 +64,25 @@ steady_all f b a zero all = refl
 steady_all f b a (suc n) all = and_from _ _ (steady_all f b a n (λ u l h. all u l (omega arith))) (agrees_same b (f (a + n)) (all (a + n) (omega arith) (omega arith)))
 
 -- what is settled goes by the moments from a until before e
-pub settled_same : (f g : Wave) (a e : ℕ) (told : Bool) → a < e → ((u : ℕ) → a ≤ u → u < e → f u ≡ g u) → settled f a e told ≡ settled g a e told
-unfolding settled
-settled_same f g a e told some same =
+pub still_same : (f g : Wave) (a e : ℕ) → a < e → ((u : ℕ) → a ≤ u → u < e → f u ≡ g u) → still f a e ≡ still g a e
+unfolding still
+still_same f g a e some same =
     let at_a : f a ≡ g a = same a (omega arith) (omega arith) in
     let st : steady f (f a) a (e - a) ≡ steady g (f a) a (e - a) = steady_same f g _ _ _ (λ u l h. same u (omega arith) (omega arith)) in
     rw (st, at_a)
 
--- a wave that stays what it was at first
-pub settled_kept : (f : Wave) (a e : ℕ) (told : Bool) → ((u : ℕ) → a ≤ u → u < e → f u ≡ f a) → settled f a e told ≡ f a
+settled_same : (f g : Wave) (a e : ℕ) (told : Bool) → a < e → ((u : ℕ) → a ≤ u → u < e → f u ≡ g u) → settled f a e told ≡ settled g a e told
 unfolding settled
-settled_kept f a e told all = let st : steady f (f a) a (e - a) ≡ true = steady_all f (f a) a (e - a) (λ u l h. all u l (omega arith)) in rw st
+settled_same f g a e told some same = ap (λ (b : Option Bool). unwrap_or b told) (still_same f g a e some same)
+
+-- a wave that stays what it was at first
+pub still_kept : (f : Wave) (a e : ℕ) → ((u : ℕ) → a ≤ u → u < e → f u ≡ f a) → still f a e ≡ Some (f a)
+unfolding still
+still_kept f a e all = let st : steady f (f a) a (e - a) ≡ true = steady_all f (f a) a (e - a) (λ u l h. all u l (omega arith)) in rw st
+
+settled_kept : (f : Wave) (a e : ℕ) (told : Bool) → ((u : ℕ) → a ≤ u → u < e → f u ≡ f a) → settled f a e told ≡ f a
+unfolding settled
+settled_kept f a e told all = ap (λ (b : Option Bool). unwrap_or b told) (still_kept f a e all)
 
 pub settled_all : (f : Wave) (a e : ℕ) (told b : Bool) → a < e → ((u : ℕ) → a ≤ u → u < e → f u ≡ b) → settled f a e told ≡ b
 settled_all f a e told b some all =
@@ -95,9 +103,18 @@ steady_not f b a (suc n) u l h ne = elim (cases_eq u (a + n)) [
   | inr o ↦ and_left _ _ (steady_not f b a n u l (omega (arith, o)) ne)
 ]
 
-pub settled_not : (f : Wave) (a e u : ℕ) (told : Bool) → a ≤ u → u < e → (f u ≡ f a → ⊥) → settled f a e told ≡ told
-unfolding settled
-settled_not f a e u told l h ne = let st : steady f (f a) a (e - a) ≡ false = steady_not f (f a) a (e - a) u l (omega arith) ne in rw st
+pub still_not : (f : Wave) (a e u : ℕ) → a ≤ u → u < e → (f u ≡ f a → ⊥) → still f a e ≡ None
+unfolding still
+still_not f a e u l h ne = let st : steady f (f a) a (e - a) ≡ false = steady_not f (f a) a (e - a) u l (omega arith) ne in rw st
+
+-- numbers each of which is above the one before it
+module _ (f : ℕ → ℕ) (up : (n : ℕ) → f n < f (suc n)) where
+  apart : (n d : ℕ) → f n + d ≤ f (n + d)
+  apart n zero = let e : n + 0 ≡ n = omega arith in rw e (omega arith)
+  apart n (suc d) = let e : n + suc d ≡ suc (n + d) = omega arith in rw e (omega (arith, apart n d, up (n + d)))
+
+  pub later : (n k : ℕ) → n ≤ k → f n + (k - n) ≤ f k
+  later n k l = let e : n + (k - n) ≡ k = omega arith in rw e at (apart n (k - n))
 
 module _ (m : Machine) (x : Told) (ok : Runnable m) (may : MayTell m x) where
   abbrev c : Circuit
@@ -120,12 +137,8 @@ module _ (m : Machine) (x : Told) (ok : Runnable m) (may : MayTell m x) where
     | inr q ↦ rw q (elim (cycle_from r t h) [ inl z ↦ inl z | inr l ↦ inr (omega arith) ])
   ]
 
-  pub clocks_apart : (r n d : ℕ) → r < m.registers → x.clock n r + d ≤ x.clock (n + d) r
-  clocks_apart r n zero h = let e : n + 0 ≡ n = omega arith in rw e (omega arith)
-  clocks_apart r n (suc d) h = let e : n + suc d ≡ suc (n + d) = omega arith in rw e (omega (arith, clocks_apart r n d h, may.in_turn (n + d) r h))
-
-  pub clocks_later : (r n k : ℕ) → r < m.registers → n ≤ k → x.clock n r ≤ x.clock k r
-  clocks_later r n k h l = let e : n + (k - n) ≡ k = omega arith in omega (arith, rw e at (clocks_apart r n (k - n) h))
+  pub clocks_later : (r n k : ℕ) → r < m.registers → n ≤ k → x.clock n r + (k - n) ≤ x.clock k r
+  clocks_later r n k h = later (λ (i : ℕ). x.clock i r) (λ i. may.in_turn i r h) n k
 
   pub cycle_is : (r n t : ℕ) → r < m.registers → x.clock n r + m.output_late ≤ t → t < x.clock (suc n) r + m.output_late → cycle m x r (suc t) ≡ n
   cycle_is r n t h a z = elim (cases_lt (cycle m x r (suc t)) n) [

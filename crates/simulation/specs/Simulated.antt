@@ -1,5 +1,5 @@
 -- The run that a machine makes, moment by moment, from what it is told.
-use Rattle.std.specs.Prelude.{ℕ, zero, suc, ◌+◌, ◌-◌, ◌<◌, min, Bool, true, false, cond, not, ◌&&◌, ◌==◌, nat_le, nat_lt}
+use Rattle.std.specs.Prelude.{ℕ, zero, suc, ◌+◌, ◌-◌, ◌<◌, min, Bool, true, false, cond, not, ◌&&◌, ◌==◌, nat_le, nat_lt, Option, Some, None, unwrap_or, is_none}
 use Rattle.circuit.specs.Gate.{output}
 use Rattle.circuit.specs.Circuit.{Circuit, along}
 use Rattle.arrival.specs.Window.{Wave}
@@ -30,9 +30,13 @@ unfoldable pub steady : Wave → Bool → ℕ → ℕ → Bool
 steady f b a zero = true
 steady f b a (suc n) = steady f b a n && agrees b (f (a + n))
 
--- the bit that a wave is at all moments from a until before e, or else what is told
+-- the bit that a wave is at all moments from a until before e, if it is one
+unfoldable pub still : Wave → ℕ → ℕ → Option Bool
+still f a e = cond (steady f (f a) a (e - a)) (Some (f a)) None
+
+-- that bit, or else what is told
 unfoldable pub settled : Wave → ℕ → ℕ → Bool → Bool
-settled f a e told = cond (steady f (f a) a (e - a)) (f a) told
+settled f a e told = unwrap_or (still f a e) told
 
 -- a register with its clock at c decides when it must first show its bit, from the moments that have passed by then: from the setup time before the
 -- clock up to the hold time after it, as far as they come before the latest output time
@@ -52,9 +56,13 @@ unfoldable pub cycle : Machine → Told → ℕ → ℕ → ℕ
 cycle m x r zero = 0
 cycle m x r (suc t) = cond (nat_le (x.clock (suc (cycle m x r t)) r + m.output_late) t) (suc (cycle m x r t)) (cycle m x r t)
 
--- what a register shows at moment t in a cycle with its clock at c and the next at d: its bit, or what is told
+-- whether a register must show its bit at moment t of a cycle with its clock at c and the next at d
+abbrev pub must_show : Machine → (c d t : ℕ) → Bool
+must_show m c d t = nat_le (c + m.output_late) t && nat_lt t (d + m.output_early)
+
+-- what it shows: its bit, or what is told
 abbrev pub shown_of : Machine → (c d t : ℕ) (bit told : Bool) → Bool
-shown_of m c d t bit told = cond (nat_le (c + m.output_late) t && nat_lt t (d + m.output_early)) bit told
+shown_of m c d t bit told = cond (must_show m c d t) bit told
 
 -- what register r shows at moment t, if the signals' waves before are w
 unfoldable pub shows_at : Machine → Told → (ℕ → Wave) → ℕ → ℕ → Bool
@@ -72,6 +80,16 @@ run_waves m x = waves m.circuit x.one x.two (λ r t. shown_before m x (suc t) r 
 
 abbrev pub run_bits : Machine → Told → ℕ → ℕ → Bool
 run_bits m x = bits m x (run_waves m x)
+
+-- whether register r may show anything at moment t
+unfoldable pub shows_anything : Machine → Told → ℕ → ℕ → Bool
+shows_anything m x r t = not (must_show m (x.clock (cycle m x r (suc t)) r) (x.clock (suc (cycle m x r (suc t))) r) t)
+
+-- whether register r comes to a cycle at moment t in which it may hold anything: its signal did not keep still over the moments from which it decides
+unfoldable pub takes_anything : Machine → Told → ℕ → ℕ → Bool
+takes_anything m x r t =
+    nat_lt (cycle m x r t) (cycle m x r (suc t))
+    && is_none (still (run_waves m x (m.takes r)) (first_seen m (x.clock (cycle m x r (suc t)) r)) (end_seen m (x.clock (cycle m x r (suc t)) r)))
 
 -- what may be told: delays and clocks within bounds, and clocks one after another
 pub record MayTell (m : Machine) (x : Told) : Type 0 where

@@ -1,18 +1,18 @@
 -- A register at one moment: it stays in its cycle, or goes on to the next and decides what it takes.
-use Rattle.std.proofs.Common.{◌≡◌, ℕ, suc, ◌+◌, ◌-◌, ◌^◌, ◌<◌, ◌≤◌, min, Bool, true, false, cond, ◌&&◌, ltb, leb, List, length, get_or, sym, ◌∙◌, arith}
+use Rattle.std.proofs.Common.{◌≡◌, ℕ, suc, ◌+◌, ◌-◌, ◌^◌, ◌<◌, ◌≤◌, min, Bool, true, false, cond, Option, Some, None, unwrap_or, List, length, get_or, sym, ap, ◌∙◌, arith}
 use Rattle.std.specs.Bool.{MatchBool}
 use Rattle.std.specs.List.{AllWithin, HoldsAt, range_with_len}
 use Rattle.std.proofs.lemmas.Nat.{pow_pos}
 use Rattle.std.proofs.lemmas.List.FromFn.{get_or-range_with_len, length-range_with_len}
 use Rattle.std.proofs.lemmas.Bool.{le-leb, lt-leb}
-use Rattle.circuit.specs.Lent.{register_count, register_in, output_early, output_late, setup, hold}
+use Rattle.circuit.specs.Lent.{register_count, register_in, output_late}
 use Rattle.circuit.specs.declared.register.Register.{Register}
 use Rattle.arrival.specs.Window.{Wave}
 use Rattle.promise.specs.Machine.{Machine, machine_in}
 use Rattle.history.specs.declared.history.History.{History}
 use Rattle.history.specs.Kept.{kept}
-use Rattle.simulation.specs.Simulated.{Told, cycle, bits, settled, first_seen, end_seen, shown_of, shows_at, run_waves, run_bits}
-use Rattle.simulation.proofs.Running.{cycle_until, clocks_apart, register_shows, settled_same, settled_kept, settled_not, some_seen}
+use Rattle.simulation.specs.Simulated.{Told, cycle, bits, still, settled, first_seen, end_seen, shown_of, shows_at, run_waves, run_bits}
+use Rattle.simulation.proofs.Running.{cycle_until, clocks_later, register_shows, still_same, still_kept, still_not, some_seen}
 use Rattle.step.specs.Lent.{TellsRegister}
 use Rattle.step.specs.Stands.{Wide, Ready, Remembers, InCycle, Does, RegisterGoes, cycle_of}
 use Rattle.step.specs.declared.state.State.{State}
@@ -20,17 +20,17 @@ use Rattle.step.specs.declared.registers.Doing.{Doing}
 use Rattle.step.specs.declared.told.Clocks.{Clocks}
 
 -- a wave by whether it is at all moments what it was at first
-pub settled_by : (f : Wave) (a e : ℕ) (told b r : Bool) → b ≡ f a →
+pub still_by : (f : Wave) (a e : ℕ) (b r : Bool) → b ≡ f a →
     MatchBool r (AllWithin (λ u. f u ≡ b) (range_with_len a (e - a)) 0 (length (range_with_len a (e - a)))) ((k : ℕ) × (k < length (range_with_len a (e - a))) × HoldsAt (λ u. f u ≡ b → ⊥) (range_with_len a (e - a)) k) →
-    cond r b told ≡ settled f a e told
-settled_by f a e told b true first all = first ∙ sym (settled_kept f a e told (λ u l h.
+    cond r (Some b) None ≡ still f a e
+still_by f a e b true first all = ap (λ (b : Bool). Some b) first ∙ sym (still_kept f a e (λ u l h.
     let n : u - a < e - a = omega arith in
     let at : get_or (range_with_len a (e - a)) (u - a) 0 ≡ u = get_or-range_with_len a (e - a) (u - a) 0 n ∙ omega arith in
     rw (at, first) at (all (u - a) 0 (omega arith) (omega (arith, length-range_with_len a (e - a))))))
-settled_by f a e told b false first (k, l, other) =
+still_by f a e b false first (k, l, other) =
     let n : k < e - a = omega (arith, length-range_with_len a (e - a)) in
     let at : get_or (range_with_len a (e - a)) k 0 ≡ a + k = get_or-range_with_len a (e - a) k 0 n in
-    sym (settled_not f a e (a + k) told (omega arith) (omega arith) (rw (at, first) at (other 0)))
+    sym (still_not f a e (a + k) (omega arith) (omega arith) (rw (at, first) at (other 0)))
 
 module _ (m : Machine) (x : Told) (ready : Ready m x) (t q n : ℕ) (h : q < m.registers) (past kept_bits : History) (now : InCycle m x t q n kept_bits) where
   goes_on : x.clock (suc n) q + m.output_late ≤ t → cycle m x q (suc t) ≡ suc n
@@ -43,7 +43,7 @@ module _ (m : Machine) (x : Told) (ready : Ready m x) (t q n : ℕ) (h : q < m.r
 
   -- no more cycles than moments
   pub few_cycles : suc n ≤ x.clock (suc n) q
-  few_cycles = let e : 0 + suc n ≡ suc n = omega arith in omega (arith, rw e at (clocks_apart m x ready.runnable ready.may q 0 (suc n) h))
+  few_cycles = omega (arith, clocks_later m x ready.runnable ready.may q 0 (suc n) h (omega arith))
 
   shows_now : (k : ℕ) (bit z : Bool) → cycle m x q (suc t) ≡ k → bit ≡ run_bits m x k q →
       z ≡ shown_of m (x.clock k q) (x.clock (suc k) q) t bit (x.show q t) → z ≡ run_waves m x q t
@@ -52,20 +52,20 @@ module _ (m : Machine) (x : Told) (ready : Ready m x) (t q n : ℕ) (h : q < m.r
 
   -- what is remembered is enough to decide
   taken_now : (wide : Wide m past) → Remembers m x t q past → x.clock (suc n) q + m.output_late ≤ t →
-      settled (kept past (m.takes q)) (first_seen m (x.clock (suc n) q)) (end_seen m (x.clock (suc n) q)) (x.take (suc n) q) ≡ run_bits m x (suc n) q
-  unfolding bits
+      unwrap_or (still (kept past (m.takes q)) (first_seen m (x.clock (suc n) q)) (end_seen m (x.clock (suc n) q))) (x.take (suc n) q) ≡ run_bits m x (suc n) q
+  unfolding bits settled
   taken_now wide so l =
       let until : t ≤ x.clock (suc n) q + m.output_late = rw (← now.shown) at (cycle_until m x ready.runnable ready.may q t h) in
-      settled_same _ _ _ _ _ (some_seen m x ready.runnable ready.may n q h)
-      (λ u a b. so (m.takes q) u (ready.runnable.formed.taken q h) (omega arith) (λ e. absurd (omega arith)) (omega (arith, wide.look_back)))
+      ap (λ (b : Option Bool). unwrap_or b (x.take (suc n) q)) (still_same _ _ _ _ (some_seen m x ready.runnable ready.may n q h)
+      (λ u a b. so (m.takes q) u (ready.runnable.formed.taken q h) (omega arith) (λ e. absurd (omega arith)) (omega (arith, wide.look_back))))
 
 module _ {g r ts : List ℕ} {t q : ℕ} {show : Bool} {told : Clocks} {b : State} {d : Doing} {register : Register} (h : q < register_count r) (is : register ≡ register_in r q) where
   -- it goes on
-  pub decides : {from end : ℕ} → told.next + output_late ts ≤ t → t < 2 ^ 64 →
-      from ≡ told.next - setup ts → end ≡ told.next + min (hold ts + 1) (output_late ts) → d.bit ≡ settled (kept b.past register.signal) from end told.take →
-      d.shows ≡ cond (leb (told.next + output_late ts) t && ltb t (told.after + output_early ts)) d.bit show → d.cycle ≡ min (cycle_of b q + 1) (2 ^ 64 - 1) →
+  pub decides : {bit : Option Bool} → told.next + output_late ts ≤ t → t < 2 ^ 64 →
+      bit ≡ still (kept b.past register.signal) (first_seen (machine_in g r ts) told.next) (min (end_seen (machine_in g r ts) told.next) (2 ^ 64 - 1)) → d.bit ≡ unwrap_or bit told.take →
+      d.shows ≡ shown_of (machine_in g r ts) told.next told.after t d.bit show → d.cycle ≡ min (cycle_of b q + 1) (2 ^ 64 - 1) →
       RegisterGoes g r ts t q show told b d
-  decides {from} {end} l small fe ee be se ce = record { does = does }
+  decides {bit} l small is_bit be se ce = record { does = does }
     where
       does : (x : Told) → Ready (machine_in g r ts) x → Wide (machine_in g r ts) b.past → TellsRegister (machine_in g r ts) x t q (cycle_of b q) show told →
           Remembers (machine_in g r ts) x t q b.past → InCycle (machine_in g r ts) x t q (cycle_of b q) b.bits → Does (machine_in g r ts) x t q d.cycle d.bit d.shows
@@ -73,8 +73,8 @@ module _ {g r ts : List ℕ} {t q : ℕ} {show : Bool} {told : Clocks} {b : Stat
           let n = cycle_of b q in
           let on : x.clock (suc n) q + output_late ts ≤ t = rw tells.next at l in
           let cx : d.cycle ≡ suc n = omega (arith, few_cycles (machine_in g r ts) x ready t q n h b.past b.bits now) in
-          let one : hold ts + 1 ≡ suc (hold ts) = omega arith in
-          let tx : d.bit ≡ run_bits (machine_in g r ts) x (suc n) q = be ∙ rw (is, fe, ee, tells.next, one, tells.take) (taken_now (machine_in g r ts) x ready t q n h b.past b.bits now wide so on) in
+          let end : min (end_seen (machine_in g r ts) told.next) (2 ^ 64 - 1) ≡ end_seen (machine_in g r ts) told.next = omega arith in
+          let tx : d.bit ≡ run_bits (machine_in g r ts) x (suc n) q = be ∙ rw (is_bit, end, is, tells.next, tells.take) (taken_now (machine_in g r ts) x ready t q n h b.past b.bits now wide so on) in
           let cy = goes_on (machine_in g r ts) x ready t q n h b.past b.bits now on in
           record {
             comes_to = cx ∙ sym cy;
@@ -84,7 +84,7 @@ module _ {g r ts : List ℕ} {t q : ℕ} {show : Bool} {told : Clocks} {b : Stat
 
   -- it stays
   pub keeps : t < told.next + output_late ts → d.bit ≡ kept b.bits q (cycle_of b q) →
-      d.shows ≡ cond (leb (told.clock + output_late ts) t && ltb t (told.next + output_early ts)) d.bit show → d.cycle ≡ cycle_of b q →
+      d.shows ≡ shown_of (machine_in g r ts) told.clock told.next t d.bit show → d.cycle ≡ cycle_of b q →
       RegisterGoes g r ts t q show told b d
   keeps l be se ce = record { does = does }
     where

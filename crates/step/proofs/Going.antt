@@ -13,7 +13,7 @@ use Rattle.step.specs.Stands.{InCycle, Does, Given, RegisterGoes, RegistersGo, S
 use Rattle.step.specs.declared.state.State.{State}
 use Rattle.step.specs.declared.registers.Doing.{Doing}
 use Rattle.step.specs.declared.told.Now.{Now}
-use Rattle.step.proofs.Remembering.{same_none, same_put, wide_same, remembers_more, remembers_next}
+use Rattle.step.proofs.Remembering.{same_none, same_put, wide_same, remembers_more, remembered_next, remembers_first}
 
 module _ (m : Machine) (x : Told) where
   -- a register comes to the next cycle at most
@@ -50,7 +50,7 @@ module _ {g r ts : List ℕ} {told : Now} where
     bits_size = same_none b.bits;
     cycles_size = refl;
     later_same = λ q l. refl;
-    remembered = λ x given. given.stands.remembers;
+    remembered = λ x given. remembers_first (machine_in g r ts) x told.moment b.past given.stands.remembered;
     done = λ x given q l. absurd (omega arith);
     left = λ x given q l h. given.stands.registers q h;
   }
@@ -95,9 +95,9 @@ module _ {g r ts : List ℕ} {told : Now} where
     bits_size = rw same_bits regs.bits_size;
     cycles_size = rw same_cycles regs.cycles_size;
     goes = λ x given tells. record {
-      remembers =
+      remembered =
           let all = gates.settled x given.ready (wide_same regs.past_size given.wide) tells (regs.remembered x given) in
-          remembers_next (machine_in g r ts) x told.moment after.past (λ k u h l q s. all k u h l (λ e. omega (arith, q e, gates_in_length g)) s);
+          remembered_next (machine_in g r ts) x told.moment after.past (λ k u h l q s. all k u h l (λ e. omega (arith, q e, gates_in_length g)) s);
       registers = λ q h. rw (same_cycles, same_bits) (regs.done x given q h);
     };
   }

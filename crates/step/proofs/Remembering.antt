@@ -12,7 +12,7 @@ use Rattle.history.specs.Kept.{kept, span, Put}
 use Rattle.simulation.specs.Simulated.{Told, run_waves}
 use Rattle.simulation.proofs.Running.{gate_moves}
 use Rattle.step.specs.Lent.{TellsGates, delays_at}
-use Rattle.step.specs.Stands.{Wide, Ready, Remembers, SameSize, Settles}
+use Rattle.step.specs.Stands.{Wide, Ready, Remembers, Remembered, SameSize, Settles}
 use Rattle.step.specs.declared.told.Delays.{Delays}
 
 -- a bit was put: histories keep their size
@@ -43,11 +43,15 @@ module _ (m : Machine) (x : Told) (t : ℕ) where
         | inr kne ↦ put.other k u (λ e. absurd (kne e)) ∙ so_far k u l le (λ e. omega (arith, q e, kne)) near
       ]
 
-  -- all settled at moment t: nothing yet at the next
-  pub remembers_next : (past : History) → Remembers m x t (signals m.circuit) past → Remembers m x (suc t) 0 past
-  remembers_next past so k u l le q s = elim (cases_eq u (suc t)) [
+  -- all settled at moment t
+  pub remembered_next : (past : History) → Remembers m x t (signals m.circuit) past → Remembered m x (suc t) past
+  remembered_next past so k u l before near = so k u l (omega arith) (λ _. l) (omega arith)
+
+  -- nothing yet at moment t
+  pub remembers_first : (past : History) → Remembered m x t past → Remembers m x t 0 past
+  remembers_first past so k u l le q s = elim (cases_eq u t) [
     | inl e ↦ absurd (omega (arith, q e))
-    | inr ne ↦ so k u l (omega (arith, ne)) (λ _. l) (omega arith)
+    | inr ne ↦ so k u l (omega (arith, ne)) (omega arith)
   ]
 
 module _ {g r ts : List ℕ} {delays : List Delays} {t : ℕ} where

@@ -33,6 +33,10 @@ module _ (m : Machine) (x : Told) (t : ℕ) where
   abbrev pub Remembers : (j : ℕ) → History → Type 0
   Remembers j past = (k u : ℕ) → k < signals m.circuit → u ≤ t → (u ≡ t → k < j) → t < u + span past → kept past k u ≡ run_waves m x k u
 
+  -- before moment t, what lies no further than the history's span back is the run's
+  abbrev pub Remembered : History → Type 0
+  Remembered past = (k u : ℕ) → k < signals m.circuit → u < t → t ≤ u + span past → kept past k u ≡ run_waves m x k u
+
   -- register r before moment t: it shows the bit of cycle n, and its bits of the last cycles are known
   pub record InCycle (r n : ℕ) (bits : History) : Type 0 where
     pub shown : n ≡ cycle m x r t
@@ -46,7 +50,7 @@ module _ (m : Machine) (x : Told) (t : ℕ) where
 
   -- THE STATE STANDS before moment t, where the run has come to: its history, its registers' cycles and their bits are the run's
   pub record Stands (b : State) : Type 0 where
-    pub remembers : Remembers 0 b.past
+    pub remembered : Remembered b.past
     pub registers : (r : ℕ) → r < m.registers → InCycle r (cycle_of b r) b.bits
 
 -- a history has as many rows and goes back as far as it did

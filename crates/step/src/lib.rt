@@ -6,5 +6,6 @@ mod registers;
 mod state;
 mod told;
 
+pub use registers::{must_show, settled};
 pub use state::State;
 pub use told::{Clocks, Delays, Now};

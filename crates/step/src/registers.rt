@@ -1,9 +1,10 @@
 // The registers at one moment.
-ghost use Rattle.std.specs.Prelude.{◌≡◌, ◌+◌, ◌≤◌, ◌<◌, ◌&&◌, length, if◌then◌else◌, nat_le, nat_lt};
+ghost use Rattle.std.specs.Prelude.{◌≡◌, ◌+◌, ◌≤◌, ◌<◌, length, min, nat_le};
 ghost use Rattle.circuit.specs.Checked.{of, registers_of};
-ghost use Rattle.circuit.specs.Lent.{register_in, output_early, output_late};
+ghost use Rattle.circuit.specs.Lent.{register_in};
+ghost use Rattle.promise.specs.Machine.{machine_in};
 ghost use Rattle.history.specs.Kept.{kept};
-ghost use Rattle.simulation.specs.Simulated.{settled};
+ghost use Rattle.simulation.specs.Simulated.{still, first_seen, end_seen, must_show, shown_of};
 ghost use Rattle.step.specs.Stands.{RegisterGoes, RegistersGo};
 
 use crate::state::State;
@@ -11,16 +12,26 @@ use crate::told::{Clocks, Now};
 use circuit::{Circuit, Register};
 use history::History;
 
-// The bit that a signal kept from moment `from` until before `end`, or else what is told.
-fn settled_bit(past: &History, signal: usize, from: u64, end: u64, told: bool) -> bool
-    ensures { result ≡ settled (kept past.now signal) from end told }
+// The bit that a signal kept from moment `from` until before `end`, if it kept one.
+fn still(past: &History, signal: usize, from: u64, end: u64) -> Option<bool>
+    ensures { result ≡ still (kept past.now signal) from end }
 {
     let bit = past.get(signal, from);
     if (from..end).all(|u| past.get(signal, u) == bit) {
-        bit
+        Some(bit)
     } else {
-        told
+        None
     }
+}
+
+// The bit that a signal kept at all moments from which a register with its clock at `clock` decides what it takes, if it
+// kept one.
+pub fn settled(past: &History, circuit: Circuit<'_>, signal: usize, clock: u64) -> Option<bool>
+    ensures { result ≡ still (kept past.now signal) (first_seen (of circuit.entry machine_in) clock) (min (end_seen (of circuit.entry machine_in) clock) u64.MAX) }
+{
+    let from = clock.saturating_sub(u64::from(circuit.setup()));
+    let seen = (u64::from(circuit.hold()) + 1).min(u64::from(circuit.output_late()));
+    still(past, signal, from, clock.saturating_add(seen))
 }
 
 // Whether moment `t` is no sooner than `time` after `moment`.
@@ -31,12 +42,19 @@ fn reached(moment: u64, time: u32, t: u64) -> bool
         .is_some_and(|latest| moment <= latest)
 }
 
-// What a register shows at moment `t`, with its clock at `clock` and the next one at `next`: its bit from the latest
-// output time after its clock until before the earliest after the next, else what is told.
-fn shown(circuit: Circuit<'_>, clock: u64, next: u64, t: u64, bit: bool, told: bool) -> bool
-    ensures { result ≡ (if nat_le (clock + output_late circuit.entry.times.now) t && nat_lt t (next + output_early circuit.entry.times.now) then bit else told) }
+// Whether a register with its clock at `clock` and the next one at `next` must show its bit at moment `t`: from the latest
+// output time after its clock until before the earliest after the next.
+pub fn must_show(circuit: Circuit<'_>, clock: u64, next: u64, t: u64) -> bool
+    ensures { result ≡ must_show (of circuit.entry machine_in) clock next t }
 {
-    if reached(clock, circuit.output_late(), t) && !reached(next, circuit.output_early(), t) {
+    reached(clock, circuit.output_late(), t) && !reached(next, circuit.output_early(), t)
+}
+
+// What it shows: its bit, or what is told.
+fn shown(circuit: Circuit<'_>, clock: u64, next: u64, t: u64, bit: bool, told: bool) -> bool
+    ensures { result ≡ shown_of (of circuit.entry machine_in) clock next t bit told }
+{
+    if must_show(circuit, clock, next, t) {
         bit
     } else {
         told
@@ -70,10 +88,8 @@ impl State {
     {
         let n = self.cycles[r];
         if reached(told.next, circuit.output_late(), t) {
-            let from = told.next.saturating_sub(u64::from(circuit.setup()));
-            let seen = (u64::from(circuit.hold()) + 1).min(u64::from(circuit.output_late()));
-            let end = told.next + seen;
-            let bit = settled_bit(&self.past, register.signal as usize, from, end, told.take);
+            let signal = register.signal as usize;
+            let bit = settled(&self.past, circuit, signal, told.next).unwrap_or(told.take);
             Doing {
                 cycle: n.saturating_add(1),
                 bit,

@@ -1,3 +1,4 @@
 pub mod Moments
 pub mod Starts
 pub mod Runs
+pub mod Seen

@@ -1,5 +1,5 @@
 -- One moment of a room that stands.
-use Rattle.std.proofs.Common.{◌≡◌, ℕ, suc, ◌+◌, ◌*◌, ◌^◌, ◌<◌, ◌≤◌, Bool, false, List, length, get_or, Ok, Err, vec_items, Result, refl, ap, ◌∙◌, inl, inr, arith, MatchResult}
+use Rattle.std.proofs.Common.{◌≡◌, ℕ, zero, suc, ◌+◌, ◌-◌, ◌*◌, ◌^◌, ◌<◌, ◌≤◌, Bool, false, ◌⊎◌, List, length, get_or, Ok, Err, vec_items, Result, refl, ap, ◌∙◌, inl, inr, arith, MatchResult}
 use Rattle.std.proofs.lemmas.Nat.{mul-le}
 use Rattle.std.proofs.lemmas.Bool.{cases_lt}
 use Rattle.circuit.specs.Checked.{of, registers_of}
@@ -59,6 +59,14 @@ module _ (s : Script) (g r ts : List ℕ) where
       let less : n * period ts ≤ cycle m x q t * period ts = mul-le n (period ts) (cycle m x q t) (period ts) l (omega arith) in
       record { cycle = omega arith; begins = omega arith; clock = omega arith }
 
+-- a register stands in the cycle in which it stood a moment ago, or in the next
+pub near : (m : Machine) (x : Told) (q t : ℕ) → (cycle m x q t ≡ cycle m x q (t - 1)) ⊎ (cycle m x q t ≡ suc (cycle m x q (t - 1)))
+near m x q zero = inl refl
+near m x q (suc t) =
+    let e : suc t - 1 ≡ t = omega arith in
+    let n = at_most_next m x q t in
+    rw e (elim (cases_lt (cycle m x q t) (cycle m x q (suc t))) [ inl l ↦ inr (omega arith) | inr l ↦ inl (omega arith) ])
+
 module _ (s : Script) (c : Circuit) (t : ℕ) (y : Room) (standing : of c (Standing s) t y) where
   abbrev runs : Machine
   runs = of c machine_in
@@ -71,13 +79,16 @@ module _ (s : Script) (c : Circuit) (t : ℕ) (y : Room) (standing : of c (Stand
   suits = record { sized = standing.knows.sized; cycles_each = standing.roomy.cycles_each }
 
   module _ (early : t < 2 ^ 60) where
+    near_told : (q : ℕ) → q < registers_of c → (cycle_of y.state q ≡ (clocks_at (vec_items y.teller.clocks) q).cycle) ⊎ (cycle_of y.state q ≡ suc (clocks_at (vec_items y.teller.clocks) q).cycle)
+    near_told q h = rw ((standing.stands.registers q h).shown, standing.stood q h) (near runs tells q t)
+
     comes_to : of c (ComesTo s) (vec_items y.state.cycles) (vec_items y.teller.clocks)
     comes_to = record {
-      near = standing.near;
+      near = near_told;
       small = λ q h.
           let shown = (standing.stands.registers q h).shown in
           small_clocks s c.gates.now c.registers.now c.times.now standing.ready c.small t q (clocks_at (vec_items y.teller.clocks) q).cycle h early
-          (elim (standing.near q h) [ inl e ↦ omega (arith, e) | inr e ↦ omega (arith, e) ]);
+          (elim (near_told q h) [ inl e ↦ omega (arith, e) | inr e ↦ omega (arith, e) ]);
     }
 
     module _ (y' : Room) (told : of c (ToldOn s) t (vec_items y.state.cycles) y.teller y'.teller) (now : Now) (moment : now.moment ≡ t) (delays : now.delays.now ≡ vec_items y'.teller.delays.values)
@@ -116,12 +127,7 @@ module _ (s : Script) (c : Circuit) (t : ℕ) (y : Room) (standing : of c (Stand
             };
             stands = after;
             knows = told.knows standing.knows comes_to;
-            near = λ q h.
-                let was = (standing.stands.registers q h).shown in
-                let is = (after.registers q h).shown in
-                let at = told.stand q h in
-                let n = at_most_next runs tells q t in
-                elim (cases_lt (cycle_of y.state q) (cycle_of y'.state q)) [ inl l ↦ inr (omega arith) | inr l ↦ inl (omega arith) ];
+            stood = λ q h. let e : suc t - 1 ≡ t = omega arith in rw e (told.stand q h ∙ (standing.stands.registers q h).shown);
           }
 
 -- a moment that is told and gone

@@ -93,7 +93,7 @@ module _ (s : Script) (g r ts : List ℕ) where
   stands_first : (b : State) → ((q : ℕ) → cycle_of b q ≡ 0) → ((q : ℕ) → q < register_count r → kept b.bits q 0 ≡ start_told s g r ts q) → Stands (machine_in g r ts) (told_by s g r ts) 0 b
   unfolding cycle bits told_by
   stands_first b first started = record {
-    remembers = λ k u h l q near. absurd (omega (arith, q (omega arith)));
+    remembered = λ k u h before near. absurd (omega arith);
     registers = λ q h. rw (first q) (record { shown = refl; held = λ i l near. let e : i ≡ 0 = omega arith in rw e (started q h) });
   }
 
@@ -110,12 +110,13 @@ module _ (s : Script) (g r ts : List ℕ) where
 
   -- a furnished room stands before the first moment
   pub stands_furnished : (y : Room) → ReadyToGo s g r ts → Furnished s g r ts y → Standing s g r ts 0 y
+  unfolding cycle
   stands_furnished y ready f = record {
     ready = ready;
     roomy = f.roomy;
     stands = stands_first y.state f.cycles f.bits;
     knows = f.begins.knows;
-    near = λ q h. inl (f.cycles q ∙ sym (f.begins.stand q));
+    stood = λ q h. f.begins.stand q;
   }
 
 -- a circuit and a script that fit can go

@@ -1,3 +1,4 @@
 pub mod Standing
 pub mod Stopped
 pub mod Made
+pub mod Looked

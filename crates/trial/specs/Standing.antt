@@ -1,10 +1,11 @@
 -- A bench with what it is told, before a moment.
-use Rattle.std.specs.Prelude.{◌≡◌, ℕ, suc, ◌+◌, ◌-◌, ◌*◌, ◌/◌, ◌^◌, ◌<◌, ◌≤◌, true, ◌⊎◌, List, length, Result, is_ok, vec_items}
+use Rattle.std.specs.Prelude.{◌≡◌, ℕ, suc, ◌+◌, ◌-◌, ◌*◌, ◌/◌, ◌^◌, ◌<◌, ◌≤◌, true, List, length, Result, is_ok, vec_items}
 use Rattle.circuit.specs.Lent.{register_count, early, late, period, setup, output_late}
 use Rattle.circuit.specs.declared.refusal.Refusal.{Refusal}
 use Rattle.promise.specs.Machine.{machine_in, Formed}
 use Rattle.history.specs.declared.history.History.{History}
 use Rattle.history.specs.Kept.{kept, span}
+use Rattle.simulation.specs.Simulated.{cycle}
 use Rattle.step.specs.Lent.{clocks_at}
 use Rattle.step.specs.Stands.{Wide, Stands, cycle_of}
 use Rattle.script.specs.declared.script.Script.{Script}
@@ -48,14 +49,13 @@ pub record Furnished (s : Script) (g r ts : List ℕ) (y : Room) : Type 0 where
   pub cycles : (q : ℕ) → cycle_of y.state q ≡ 0
   pub begins : Begins s g r ts y.teller
 
--- THE ROOM STANDS before moment t: all that it holds is that of the run which the script tells
+-- THE ROOM STANDS before moment t: all that it holds is that of the run which the script tells, and registers are told of the cycle in which they stood before the last moment
 pub record Standing (s : Script) (g r ts : List ℕ) (t : ℕ) (y : Room) : Type 0 where
   pub ready : ReadyToGo s g r ts
   pub roomy : Roomy g r ts y
   pub stands : Stands (machine_in g r ts) (told_by s g r ts) t y.state
   pub knows : Knows s g r ts t y.teller
-  pub near : (q : ℕ) → q < register_count r →
-      (cycle_of y.state q ≡ (clocks_at (vec_items y.teller.clocks) q).cycle) ⊎ (cycle_of y.state q ≡ suc (clocks_at (vec_items y.teller.clocks) q).cycle)
+  pub stood : (q : ℕ) → q < register_count r → (clocks_at (vec_items y.teller.clocks) q).cycle ≡ cycle (machine_in g r ts) (told_by s g r ts) q (t - 1)
 
 -- the moment by which every register has its bit of the cycle after n: past its latest clock by the latest output time
 abbrev pub end_of : (ts : List ℕ) (latest n : ℕ) → ℕ

@@ -1,7 +1,9 @@
 // A circuit on the bench: gone through time, cycle by cycle, with what a script tells.
 #![tactic(auto)]
 
+mod count;
 mod going;
+mod looking;
 mod preparing;
 mod room;
 mod running;

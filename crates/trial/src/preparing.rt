@@ -6,17 +6,15 @@ ghost use Rattle.circuit.specs.Checked.{of, registers_of};
 ghost use Rattle.circuit.specs.Lent.{period, setup, output_late};
 ghost use Rattle.promise.specs.Machine.{machine_in};
 ghost use Rattle.step.specs.Stands.{Wide};
-ghost use Rattle.script.specs.Told.{start_told};
 ghost use Rattle.trial.specs.Standing.{Started, BitsReady, Furnished, Standing};
 ghost use Rattle.trial.specs.Stopped.{Timeless, Stopped};
 
 use crate::room::Room;
 use crate::stop::Stop;
 use circuit::{Circuit, Gate, Refusal, Register};
-use clocks::Bench;
+use clocks::{Bench, start_of};
 use fitting::fits;
 use history::History;
-use script::{Choice, Script, chance};
 use std::alloc::{AllocError, Global};
 use step::State;
 use telling::Teller;
@@ -27,20 +25,6 @@ fn greatest<T, F: FnMut(&T) -> u32>(items: &[T], size: F) -> u32
     ensures { (measure : T → ℕ) → ActsAs F.FnMut size (λ x. measure x.now) → result ≡ unwrap_or (reduce max (map measure items.now)) 0 }
 {
     items.iter().map(size).max().unwrap_or(0)
-}
-
-// A register's bit at the start: as told, else by the seed, else 0.
-fn start_of(script: &Script, r: usize) -> bool
-    ensures { (g rs ts : List ℕ) → result ≡ start_told script.now g rs ts r }
-{
-    let told = script
-        .start
-        .as_ref()
-        .map(|bits| bits.get(r).copied().unwrap_or(false));
-    let chosen = || script
-        .seed
-        .map(|seed| chance::odd(Choice::Start.draw(seed, r as u64, 0)));
-    told.or_else(chosen).unwrap_or(false)
 }
 
 // The bits of the first cycle. A loop over the numbers of registers: a history is written row by row, by number.

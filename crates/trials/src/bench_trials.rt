@@ -46,7 +46,7 @@ fn entry(when: u32, one: u32, two: u32) -> Entry {
 }
 
 // Greatest delays, a late clock and then an early one, and 1 taken where the register may take anything.
-fn slow(heap: Global) -> Result<Script, AllocError> {
+pub(crate) fn slow(heap: Global) -> Result<Script, AllocError> {
     let mut script = Script::new(heap);
     script.cycles = 2;
     script.push(Kind::Delay, entry(0, 8, 8))?;
@@ -56,7 +56,7 @@ fn slow(heap: Global) -> Result<Script, AllocError> {
 }
 
 // The inverter with these times.
-fn inverter(times: &[u32]) -> Result<Circuit<'_>, Refusal> {
+pub(crate) fn inverter(times: &[u32]) -> Result<Circuit<'_>, Refusal> {
     checked(&INVERTER, &ONE, times)
 }
 

@@ -16,3 +16,5 @@ mod look_trials;
 mod slack_trials;
 #[cfg(test)]
 mod table_trials;
+#[cfg(test)]
+mod watch_trials;

@@ -1,19 +1,15 @@
-use Rattle.std.proofs.Common.{◌≡◌, ◌+◌, ◌-◌, min, sym, arith, rules}
+use Rattle.std.proofs.Common.{◌≡◌, sym, arith, rules}
 use Rattle.std.proofs.lemmas.Bool.{leb-true, leb-false}
 use Rattle.std.proofs.lemmas.List.{get_or_read}
-use Rattle.circuit.specs.Lent.{output_late, setup, hold}
 use Rattle.step.specs.Stands.{cycle_of}
 use Rattle.step.proofs.Deciding.{decides, keeps}
 use Rattle.step.proofs.state.State.register_now.Goals as goal
 
 pub returns-then-reached : goal.returns-then-reached
 returns-then-reached c =
-    let times = c.args.circuit.times.now in
     let on = leb-true _ _ (sym c.if-reached.ensures) in
     let n : c.index-n.result.now ≡ cycle_of c.args.self.now c.args.r = search (rules, get_or_read) in
-    let from : c.saturating_sub-from.result ≡ c.args.told.next - setup times = omega arith in
-    let seen : c.min-seen.result ≡ min (hold times + 1) (output_late times) = omega (arith, c.min-seen.ensures) in
-    decides {b = c.args.self.now} c.requires.register c.requires.is (omega arith) (omega arith) from (omega arith) c.settled_bit-bit.ensures c.shown.ensures
+    decides {b = c.args.self.now} c.requires.register c.requires.is (omega arith) (omega arith) c.settled.ensures c.unwrap_or-bit.ensures c.shown.ensures
     (rw n at c.saturating_add.ensures)
 
 pub returns-else-reached : goal.returns-else-reached
