@@ -13,6 +13,8 @@ mod drawing_trials;
 #[cfg(test)]
 mod look_trials;
 #[cfg(test)]
+mod random_trials;
+#[cfg(test)]
 mod slack_trials;
 #[cfg(test)]
 mod table_trials;
