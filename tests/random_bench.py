@@ -5,6 +5,7 @@
 
 Each run is made from the rules alone: what is printed of each cycle has to be the same, and every signal, clock and mark of
 the value change dump at every moment. The weaker tools of examples/weaker are tried as well."""
+import glob
 import itertools
 import os
 import random
@@ -264,7 +265,7 @@ def compare(rng, folder, counts):
     want, first = printed(run)
     assert got == want and status == (1 if first else 0), (got, want, status, err)
     check_dump(paths[2], run)
-    passed = word(*circuit) == "passed"
+    passed = word(*circuit).startswith("passed")
     assert not (passed and first), "a passed circuit goes wrong"
     counts["passed" if passed else "not passed, not as drawn" if first else "not passed, as drawn"] += 1
 
@@ -303,22 +304,51 @@ def one_delay(circuit):
     return True
 
 
-def read(path):
+def rows_of(path):
     lines = [line.split("#")[0].split() for line in open(path)]
     return [line for line in lines if line]
+
+
+def read_circuit(path):
+    table = {w: k for k, w in enumerate(TABLES)}
+    rows = {kind: [] for kind in ("circuit", "times", "register", "gate", "end")}
+    for row in rows_of(path):
+        rows[row[0]].append([table[w] if w in table else int(w) for w in row[1:]] if row[0] != "circuit" else row)
+    return rows["gate"], rows["register"], rows["times"][0]
+
+
+def read_told(path):
+    return [(row[0],) + tuple(map(int, row[1:])) for row in rows_of(path)]
 
 
 def check_weaker():
     for name, tool in (("one-delay", one_delay), ("late-everywhere", late_everywhere), ("at-most", at_most)):
         path = os.path.join(WEAKER, name)
-        rows = read(path + ".circuit")
-        table = {w: TABLES.index(w) for w in TABLES}
-        of = lambda kind: [[table.get(w) if w in table else int(w) for w in row[1:]] for row in rows if row[0] == kind]
-        circuit = (of("gate"), of("register"), of("times")[0])
+        circuit = read_circuit(path + ".circuit")
         got, status, _ = call(path + ".circuit", path + ".delays")
         assert tool(circuit), name + ": the weaker tool does not let it through"
-        assert word(*circuit) != "passed", name
+        assert not word(*circuit).startswith("passed"), name
         assert status == 1 and "not as drawn" in got[-1], (name, got)
+
+
+def check_examples(folder):
+    """The example circuits: with what is told to them, and with everything by chance."""
+    by_chance = os.path.join(folder, "by-chance")
+    open(by_chance, "w").write("cycles 12\nrandom 1\n")
+    for path in sorted(glob.glob(os.path.join(TOP, "examples", "*.circuit"))):
+        circuit = read_circuit(path)
+        told = path.replace(".circuit", ".delays")
+        if os.path.exists(told):
+            want, first = printed(Run(Told(circuit, read_told(told))))
+            assert call(path, told)[:2] == (want, 1 if first else 0), path
+        got, status, _ = call(path, by_chance, "--trials", "40")
+        first = None
+        for seed in range(1, 41):
+            found = printed(Run(Told(circuit, [("cycles", 12), ("random", seed)])))[1]
+            first = first or (found and "with random %d, %s" % (seed, found.replace("first ", "")))
+        assert len(got) == 1 and got[0].startswith("40 runs of 12 cycles, ") and status == (1 if first else 0), (path, got)
+        assert got[0].endswith(first or ", as drawn"), (path, got, first)
+        assert not (word(*circuit).startswith("passed") and first), path
 
 
 def main():
@@ -328,6 +358,7 @@ def main():
     with tempfile.TemporaryDirectory() as folder:
         for _ in range(count):
             compare(rng, folder, counts)
+        check_examples(folder)
     check_weaker()
     assert count < 200 or all(counts.values()), counts
     print("%d runs, all as by the rules: %s; 3 weaker tools are refuted" % (count, ", ".join("%d %s" % (n, k) for k, n in counts.items())))

@@ -104,6 +104,20 @@ impl Arguments {
 }
 
 impl Command {
+    // Why what is asked for cannot be had together.
+    fn contradicts(&self) -> Option<&'static str> {
+        let Command::Bench(task) = self else {
+            return None;
+        };
+        if task.vcd.is_some() && task.trials.is_some() {
+            return Some("--vcd is for one run, and --trials for many");
+        }
+        if task.circuit.as_str() == "-" && task.delays.as_str() == "-" {
+            return Some("only one of the two files can be standard input");
+        }
+        None
+    }
+
     // `--help` goes before `--version`, and both go before all that is not an option. What cannot be read is told, and
     // nothing after it is read.
     pub(crate) fn read(rt: &HostRuntime) -> anyhow::Result<Command> {
@@ -135,6 +149,11 @@ impl Command {
             eprintln!(rt; "bench: the last option needs a value")?;
             return Ok(Command::Usage);
         }
-        Ok(read.command())
+        let command = read.command();
+        if let Some(why) = command.contradicts() {
+            eprintln!(rt; "bench: {why}")?;
+            return Ok(Command::Usage);
+        }
+        Ok(command)
     }
 }

@@ -1,0 +1,183 @@
+#!/usr/bin/env python3
+"""Runs `pass` and `bench` on bad input: each has to be told clearly, with the file and the line, and end with status 1.
+
+    tests/bad_input.py      (needs built programs: ./muleminute pass --version and ./muleminute bench --version build them)"""
+import os
+import subprocess
+import sys
+import tempfile
+
+TOP = os.path.join(os.path.dirname(os.path.abspath(__file__)), "..")
+GOOD = b"circuit c\ntimes 20 2 4 3 1\nregister 1 0 2\ngate 0 0 nor 3 8 3 8\nend\n"
+TOLD = b"cycles 2\nstart 1\nrandom 7\nclock 1 0 2\ndelay 3 1 8 8\nshow 4 0 1\ntake 1 0 0\n"
+
+
+def run(program, *arguments, stdin=b""):
+    path = os.path.join(TOP, "crates", program, "out", program)
+    done = subprocess.run([path] + list(arguments), input=stdin, capture_output=True, timeout=60)
+    return done.returncode, done.stdout.decode(), done.stderr.decode()
+
+
+class Folder:
+    def __init__(self, path):
+        self.path = path
+
+    def file(self, name, text):
+        path = os.path.join(self.path, name)
+        with open(path, "wb") as f:
+            f.write(text)
+        return path
+
+
+def same(got, want, what):
+    assert got == want, "%s:\ngot  %r\nwant %r" % (what, got, want)
+
+
+# What `pass` has to say of a text, by its fault: the line, and how the rest begins.
+CIRCUITS = [
+    (b"", None, " no circuit"),
+    (b"# nothing\n\n", None, " no circuit"),
+    (b"times 1 2 3 4 5\n", 1, "expected a line `circuit`"),
+    (b"circuit a b\n", 1, "expected at most one name"),
+    (b"circuit \xc3\xa4\nend\n", 1, "expected at most one name"),
+    (b"circuit\nwire 1\nend\n", 2, "expected a line that begins with"),
+    (b"circuit\n\x00\nend\n", 2, "expected a line that begins with"),
+    (b"circuit\ncircuit\nend\n", 2, "expected a line that begins with"),
+    (b"circuit\nregister +1 0 2\nend\n", 2, "expected a number"),
+    (b"circuit\nregister -1 0 2\nend\n", 2, "expected a number"),
+    (b"circuit\nregister 0x1 0 2\nend\n", 2, "expected a number"),
+    (b"circuit\nregister 1.5 0 2\nend\n", 2, "expected a number"),
+    (b"circuit\nregister 4294967296 0 2\nend\n", 2, "expected a number below"),
+    (b"circuit\nregister 99999999999999999999999999 0 2\nend\n", 2, "expected a number below"),
+    (b"circuit\ngate 0 0 Nor 3 8 3 8\nend\n", 2, "expected the name or the number of a table"),
+    (b"circuit\ngate 0 0 n\xc3\xb6r 3 8 3 8\nend\n", 2, "expected the name or the number of a table"),
+    (b"circuit\nend end\n", 2, "expected nothing after `end`"),
+    (GOOD + b"circuit d\n", 7, "expected a line `end`"),
+    (GOOD + b"x" * 5_000_000 + b"\n", 6, "expected a line `circuit`"),
+    (b"circuit\ngate " + b"0" * 5_000_000 + b" \xff\nend\n", 2, "expected a number"),
+]
+
+# What is said of a circuit whose lines are no circuit, though its text has no fault.
+REFUSED = [
+    (b"circuit\nregister 0 0 2\nend\n", "turned away by 1 at 2"),
+    (b"circuit\ntimes 20 2 4 3 1\ntimes 20 2 4 3 1\nregister 0 0 2\nend\n", "turned away by 1 at 2"),
+    (b"circuit\ntimes 20 2 4 3 1\nend\n", "turned away by 2 at 0"),
+]
+
+# What `bench` has to say of a text of delays.
+DELAYS = [
+    (b"", 1, "expected a line `cycles`"),
+    (b"start 1\n", 2, "expected a line `cycles`"),
+    (b"cycles 2\ncycles 2\n", 2, "expected just one line `cycles`"),
+    (b"cycles\n", 1, "expected"),
+    (b"cycles 4294967296\n", 1, "expected a number below"),
+    (b"cycles -1\n", 1, "expected a number"),
+    (b"cycles 2\nstart 1 0\n", 2, "expected"),
+    (b"cycles 2\nstart 2\n", 2, "expected 0 or 1"),
+    (b"cycles 2\nshow 0 1 1\n", 2, "expected a register of the circuit"),
+    (b"cycles 2\ntake 1 0 2\n", 2, "expected 0 or 1"),
+    (b"cycles 2\ntake 2 0 1\ntake 1 0 1\n", 3, "expected a cycle no earlier"),
+    (b"cycles 2\n\x00\n", 2, "expected a line that begins with"),
+    (b"cycles 0\n", None, " no cycle"),
+]
+
+# What is out of its bounds, by its line counted from 0.
+OUTSIDE = [
+    (b"cycles 2\ndelay 0 1 9 8\n", 1, "gate 1: delay of the first input 9 is not within 3 to 8"),
+    (b"cycles 2\ndelay 0 1 8 2\n", 1, "gate 1: delay of the second input 2 is not within 3 to 8"),
+    (b"cycles 2\n\ndelay 0 0 8 8\n", 2, "a delay of a signal that is no gate's"),
+    (b"cycles 2\ndelay 0 2 8 8\n", 1, "a delay of a signal that is no gate's"),
+    (b"cycles 2\nclock 1 0 3\n", 1, "register 0: clock 3 is not within 0 to 2"),
+    (b"cycles 2\nclock 1 1 0\n", 1, "a clock of a register that is not there"),
+]
+
+
+def check_pass(folder):
+    for text, line, rest in CIRCUITS:
+        path = folder.file("bad", text)
+        status, out, err = run("pass", path)
+        want = "pass: %s:%s" % (path, rest if line is None else "%d: %s" % (line, rest))
+        assert status == 1 and err.startswith(want) and err.count("\n") == 1, (text[:80], status, err[:200], want)
+        same(out.count("\n"), 1 if text.startswith(GOOD) else 0, text[:80])
+    for text, rest in REFUSED:
+        status, out, err = run("pass", folder.file("bad", text))
+        assert status == 1 and out.startswith(rest) and err == "", (text, status, out, err)
+    # No beginning of a text that is cut short is read as a circuit, and nothing else changes what is read.
+    want = run("pass", folder.file("good", GOOD))
+    same(want[0], 0, "good")
+    for n in range(len(GOOD) - 1):
+        status, out, _ = run("pass", folder.file("cut", GOOD[:n]))
+        same((status, out), (1, ""), "cut at %d" % n)
+    for text in (GOOD[:-1], GOOD.replace(b"\n", b"\r\n"), GOOD.replace(b" ", b"\t "), b"# \xff\x00\n\n" + GOOD):
+        same(run("pass", folder.file("other", text)), want, text)
+    same(run("pass", "-", stdin=GOOD), want, "standard input")
+
+
+def check_files(folder):
+    good = folder.file("good", GOOD)
+    told = folder.file("told", TOLD)
+    missing = os.path.join(folder.path, "missing")
+    for bad in (missing, folder.path):
+        for program, arguments in (("pass", [bad]), ("bench", [bad, told]), ("bench", [good, bad])):
+            status, out, err = run(program, *arguments)
+            assert status == 1 and out == "" and err.startswith("%s: %s: " % (program, bad)), (program, bad, out, err)
+    # The other files are answered for all the same.
+    status, out, err = run("pass", missing, good)
+    assert status == 1 and out.startswith("c: passed") and err.startswith("pass: "), (status, out, err)
+    status, out, err = run("bench", good, told, "--vcd", os.path.join(missing, "v"))
+    assert status == 1 and out == "" and missing in err, (status, out, err)
+
+
+def check_bench(folder):
+    good = folder.file("good", GOOD)
+    for text, line, rest in DELAYS:
+        path = folder.file("bad", text)
+        status, out, err = run("bench", good, path)
+        want = "bench: %s:%s" % (path, rest if line is None else "%d: %s" % (line, rest))
+        assert status == 1 and out == "" and err.startswith(want) and err.count("\n") == 1, (text, status, out, err)
+    dump = os.path.join(folder.path, "dump")
+    for text, line, rest in OUTSIDE:
+        status, out, err = run("bench", good, folder.file("bad", text), "--vcd", dump)
+        want = "c: turned away by 9 at %d: %s" % (line, rest)
+        assert status == 1 and out.startswith(want) and out.endswith("(line %d)\n" % (line + 1)) and err == "", (text, out, err)
+        assert not os.path.exists(dump), "the dump is begun"
+        same(run("bench", "--exit-zero", good, folder.file("bad", text))[0], 0, "--exit-zero")
+    for times, place in ((b"0 2 4 3 1", 0), (b"20 0 0 0 1", 1)):
+        path = folder.file("bad", GOOD.replace(b"20 2 4 3 1", times))
+        status, out, err = run("bench", path, folder.file("told", TOLD))
+        assert status == 1 and out.startswith("c: turned away by 10 at %d: " % place), (times, out, err)
+    status, out, err = run("bench", folder.file("bad", GOOD + GOOD), folder.file("told", TOLD))
+    assert status == 1 and out == "" and ":6: expected just one circuit" in err, (out, err)
+    status, out, err = run("bench", folder.file("bad", GOOD.replace(b"3 8 3 8", b"9 8 3 8")), folder.file("told", TOLD))
+    assert status == 1 and out.startswith("c: turned away by 5 at 0: "), (out, err)
+
+
+def check_arguments(folder):
+    good, told = folder.file("good", GOOD), folder.file("told", TOLD)
+    for program in ("pass", "bench"):
+        for arguments in ([], ["--wrong"]):
+            status, out, err = run(program, *arguments)
+            assert status == 1 and out == "" and "usage: %s" % program in err, (program, arguments, out, err)
+        for option in ("--help", "--version"):
+            status, out, err = run(program, option)
+            assert status == 0 and out != "" and err == "", (program, option)
+    for arguments in ([good], [good, told, told], ["--trials", good, told], ["--trials", "0", good, told], [good, told, "--vcd"],
+                      ["--vcd", "v", "--trials", "2", good, told], ["-", "-"]):
+        status, out, err = run("bench", *arguments)
+        assert status == 1 and out == "" and "usage: bench" in err, (arguments, out, err)
+    status, out, err = run("bench", "--trials", "3", good, folder.file("none", b"cycles 2\n"))
+    assert status == 1 and out == "" and "random" in err, (out, err)
+    same(run("bench", "-", told, stdin=GOOD), run("bench", good, told), "standard input")
+
+
+def main():
+    with tempfile.TemporaryDirectory() as path:
+        folder = Folder(path)
+        for check in (check_pass, check_files, check_bench, check_arguments):
+            check(folder)
+    print("bad input is told: %d texts of circuits, %d of delays, files and arguments"
+          % (len(CIRCUITS) + len(REFUSED), len(DELAYS) + len(OUTSIDE)))
+
+
+if __name__ == "__main__":
+    sys.exit(main())
