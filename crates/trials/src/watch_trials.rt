@@ -62,9 +62,15 @@ fn inverter_too_late(rt: HostRuntime) -> Result<(), Fail> {
     Ok(())
 }
 
-// Moment by moment: what the two signals show, the moments at which the register may show anything, which are those
-// before it has its first bit and from two to before four past each clock, the one at which it took anything, and those at
-// which a clock comes.
+// Marks in a line with a place for each moment.
+fn mark(line: &mut [u8; 39], t: usize, bit: bool) {
+    if t < 39 && bit {
+        line[t] = b'#';
+    }
+}
+
+// Moment by moment: what the two signals show, when the register may show anything, when it takes anything, and when a
+// clock comes. It may show anything until it has its first bit, and from two to before four past each clock.
 #[test]
 fn inverter_seen(rt: HostRuntime) -> Result<(), Fail> {
     let times = [16, 2, 4, 3, 1];
@@ -74,31 +80,49 @@ fn inverter_seen(rt: HostRuntime) -> Result<(), Fail> {
         circuit,
         script: &script,
     };
-    let mut ticks = Ticks::new(bench, 0);
-    let mut gone = 0;
+    let mut clock = Ticks::new(bench, 0);
+    let mut lines = [[b'.'; 39]; 5];
+    if let Ok(mut run) = Watch::prepare(rt.alloc(), bench) {
+        for t in 0..39usize {
+            if !run.step() {
+                run.cycle();
+                run.step();
+            }
+            let seen = run.trial();
+            mark(&mut lines[0], t, clock.comes(bench, t as u64));
+            mark(&mut lines[1], t, seen.signal(0));
+            mark(&mut lines[2], t, seen.signal(1));
+            mark(&mut lines[3], t, seen.shows_anything(0));
+            mark(&mut lines[4], t, seen.takes_anything(0));
+        }
+        assert_eq!(rt; run.trial().moment(), 39);
+        assert!(rt; !run.step());
+    }
+    assert_eq!(rt; lines[0], *b"#.................#.............#......");
+    assert_eq!(rt; lines[1], *b"......................############..###");
+    assert_eq!(rt; lines[2], *b"##############################.........");
+    assert_eq!(rt; lines[3], *b"####................##............##...");
+    assert_eq!(rt; lines[4], *b"....................................#..");
+    Ok(())
+}
+
+// Before a moment has gone, and of signals and registers that are not there, nothing is seen.
+#[test]
+fn nothing_seen(rt: HostRuntime) -> Result<(), Fail> {
+    let times = [16, 2, 4, 3, 1];
+    let circuit = inverter(&times)?;
+    let script = slow(rt.alloc())?;
+    let bench = Bench {
+        circuit,
+        script: &script,
+    };
     if let Ok(mut run) = Watch::prepare(rt.alloc(), bench) {
         assert!(rt; !run.trial().signal(1));
         assert!(rt; !run.trial().shows_anything(0));
-        for t in 0..39u64 {
-            if !run.step() {
-                assert!(rt; run.cycle());
-                assert!(rt; run.step());
-            }
-            let seen = run.trial();
-            gone = seen.moment();
-            assert_eq!(rt; gone, t + 1);
-            let told = t < 4 || t == 20 || t == 21 || t == 34 || t == 35;
-            assert_eq!(rt; seen.shows_anything(0), told, "at {t}");
-            assert_eq!(rt; seen.takes_anything(0), t == 36, "at {t}");
-            let high = t >= 22 && t != 34 && t != 35;
-            assert_eq!(rt; seen.signal(0), high, "at {t}");
-            assert_eq!(rt; seen.signal(1), t < 30, "at {t}");
-            assert!(rt; !seen.signal(2) && !seen.shows_anything(1) && !seen.takes_anything(1));
-            let clock = t == 0 || t == 18 || t == 32;
-            assert_eq!(rt; ticks.comes(bench, t), clock, "at {t}");
-        }
-        assert!(rt; !run.step());
+        run.step();
+        assert!(rt; run.trial().signal(1));
+        assert!(rt; !run.trial().signal(2));
+        assert!(rt; !run.trial().shows_anything(1));
     }
-    assert_eq!(rt; gone, 39);
     Ok(())
 }
