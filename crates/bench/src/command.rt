@@ -126,7 +126,7 @@ impl Command {
         for arg in env::args(rt)?.skip(1) {
             if let Some(option) = awaited.take() {
                 if !read.value(option, arg) {
-                    eprintln!(rt; "bench: --trials needs a number of runs, 1 or more")?;
+                    eprintln!(rt; "bench: --trials needs a number of runs, 1 to 4294967295")?;
                     return Ok(Command::Usage);
                 }
                 continue;

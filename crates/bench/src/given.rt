@@ -1,6 +1,7 @@
 // The two files: a circuit, and what is told to it.
+use circuit::{Circuit, Register};
 use fields::Fault;
-use script::Script;
+use script::{Entry, Script};
 use std::{fmt, io};
 use text::Draft;
 
@@ -20,6 +21,8 @@ pub(crate) enum Flaw {
     // Another circuit begins on this line.
     MoreCircuits(usize),
     NoCycle,
+    // A clock is told on this line that comes after the run's end.
+    PastEnd(usize),
     // There is no number from which runs are made.
     NoRandom,
 }
@@ -45,6 +48,10 @@ impl fmt::Display for Flaw {
             Flaw::NoCircuit => f.write_str(" no circuit: expected one"),
             Flaw::MoreCircuits(line) => write!(f, "{line}: expected just one circuit"),
             Flaw::NoCycle => f.write_str(" no cycle: nothing would be looked at"),
+            Flaw::PastEnd(line) => write!(
+                f,
+                "{line}: expected a cycle that begins before the run's end"
+            ),
             Flaw::NoRandom => f.write_str(" no line `random`: --trials needs one"),
         }
     }
@@ -71,12 +78,37 @@ fn read_one(rt: &HostRuntime, bytes: &[u8]) -> Result<Draft, Flaw> {
     }
 }
 
-// What a file tells to a circuit with so many registers, which is to go some cycles.
-pub(crate) fn read_script(rt: &HostRuntime, path: &str, registers: usize) -> Result<Script, Flaw> {
+// The first clock of a cycle that begins after the run's end. Whether it comes after the one before it would take longer to
+// see than the run.
+fn past_end(circuit: Circuit<'_>, script: &Script) -> Option<Entry> {
+    let latest = circuit
+        .registers()
+        .iter()
+        .map(|numbers| Register::from(*numbers).late)
+        .max()
+        .unwrap_or(0);
+    let after = u64::from(latest) + u64::from(circuit.output_late());
+    let after = after / u64::from(circuit.period().max(1));
+    let last = u64::from(script.cycles)
+        .saturating_add(2)
+        .saturating_add(after);
+    let clocks = script.clocks.as_slice();
+    clocks.iter().find(|e| u64::from(e.when) > last).copied()
+}
+
+// What a file tells to a circuit, which is to go some cycles.
+pub(crate) fn read_script(
+    rt: &HostRuntime,
+    path: &str,
+    circuit: Circuit<'_>,
+) -> Result<Script, Flaw> {
     let text = input::read_all(rt, path)?;
-    let script = delays::read(rt.alloc(), &text, registers)?;
+    let script = delays::read(rt.alloc(), &text, circuit.register_count())?;
     if script.cycles == 0 {
         return Err(Flaw::NoCycle);
     }
-    Ok(script)
+    match past_end(circuit, &script) {
+        Some(clock) => Err(Flaw::PastEnd(clock.line.saturating_add(1))),
+        None => Ok(script),
+    }
 }

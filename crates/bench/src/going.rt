@@ -7,7 +7,7 @@ use anyhow::anyhow;
 use circuit::{Circuit, Refusal};
 use clocks::Bench;
 use script::Script;
-use std::{fs, io};
+use std::io;
 use trial::Stop;
 use watch::Watch;
 
@@ -75,8 +75,7 @@ fn dump_for(rt: &HostRuntime, task: &Task, bench: Bench<'_>) -> anyhow::Result<O
     let Some(path) = &task.vcd else {
         return Ok(None);
     };
-    let file = fs::create(rt, path.as_str()).map_err(|e| anyhow!("{path}: {e}"))?;
-    Ok(Some(Dump::new(rt, file, bench)?))
+    Ok(Some(Dump::new(rt, path.as_str(), bench)?))
 }
 
 // A run, of which each cycle is printed.
@@ -119,7 +118,34 @@ fn first_difference(
     Ok(None)
 }
 
-// So many runs, from the number that is told and the ones after it.
+// Whether a run is not made by its number alone: a told clock does not come after the one before it, which was chosen.
+fn by_number(bench: Bench<'_>, refusal: Refusal) -> bool {
+    match refusal {
+        Refusal::OutOfBounds(line) => {
+            misfit::explain(bench.circuit, bench.script, line).is_none()
+        }
+        _ => false,
+    }
+}
+
+impl Tried {
+    // One run more, from this number, and what it came to.
+    fn add(&mut self, seed: u32, difference: Option<Difference>) {
+        self.made = self.made.saturating_add(1);
+        if let Some(difference) = difference {
+            self.wrong = self.wrong.saturating_add(1);
+            self.first_wrong = self.first_wrong.or(Some((seed, difference)));
+        }
+    }
+
+    // One run more that is not made.
+    fn add_not_made(&mut self, seed: u32) {
+        self.not_made = self.not_made.saturating_add(1);
+        self.first_not_made = self.first_not_made.or(Some(seed));
+    }
+}
+
+// So many runs, from the number that is told and the ones after it. All are numbers that can be told.
 pub(crate) fn try_runs(
     rt: &HostRuntime,
     task: &Task,
@@ -127,24 +153,28 @@ pub(crate) fn try_runs(
     script: &mut Script,
     runs: u32,
 ) -> Result<Tried, Halt> {
-    let from = script.seed.unwrap_or(0);
+    let from = u32::try_from(script.seed.unwrap_or(0)).unwrap_or(0);
     let mut beside = Beside {
         dump: None,
         progress: Progress::new(rt, task.quiet)?,
     };
     let mut tried = Tried {
-        runs,
+        made: 0,
         cycles: script.cycles,
         wrong: 0,
-        first: None,
+        first_wrong: None,
+        not_made: 0,
+        first_not_made: None,
     };
     for i in 0..runs {
-        let seed = from.wrapping_add(u64::from(i));
-        script.seed = Some(seed);
+        let seed = from.wrapping_add(i);
+        script.seed = Some(u64::from(seed));
         beside.progress.run = Some(OneOf(i + 1, runs));
-        if let Some(difference) = first_difference(rt, &mut beside, Bench { circuit, script })? {
-            tried.wrong = tried.wrong.saturating_add(1);
-            tried.first = tried.first.or(Some((seed, difference)));
+        let bench = Bench { circuit, script };
+        match first_difference(rt, &mut beside, bench) {
+            Ok(difference) => tried.add(seed, difference),
+            Err(Halt::Refused(refusal)) if by_number(bench, refusal) => tried.add_not_made(seed),
+            Err(halt) => return Err(halt),
         }
     }
     Ok(tried)

@@ -101,7 +101,7 @@ fn go(
     match ended {
         Ok(ended) => {
             println!(rt; "{ended}")?;
-            Ok(Outcome::of_run(ended.differs()))
+            Ok(ended.outcome())
         }
         Err(Halt::Failed(e)) => Err(e),
         Err(Halt::Refused(refusal)) => {
@@ -137,7 +137,7 @@ fn bench(rt: &HostRuntime, task: &Task) -> anyhow::Result<Outcome> {
         unreachable!()
     };
     let path = task.delays.as_str();
-    match read_script(rt, path, circuit.register_count()) {
+    match read_script(rt, path, circuit) {
         Ok(script) if task.trials.is_some() && script.seed.is_none() => tell(
             rt,
             path,

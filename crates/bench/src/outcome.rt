@@ -8,22 +8,13 @@ pub(crate) enum Outcome {
     AsDrawn,
     // Some register was not.
     NotAsDrawn,
-    // The circuit, or what is told to it, is turned away.
+    // The circuit, or what is told to it, is turned away, at least in one run.
     TurnedAway,
     // A file cannot be used.
     Unsound,
 }
 
 impl Outcome {
-    // What a run came to, by whether some register was not as drawn.
-    pub(crate) fn of_run(differs: bool) -> Outcome {
-        if differs {
-            Outcome::NotAsDrawn
-        } else {
-            Outcome::AsDrawn
-        }
-    }
-
     pub(crate) fn status(self, exit_zero: bool) -> ExitCode {
         match self {
             Outcome::AsDrawn => ExitCode::SUCCESS,

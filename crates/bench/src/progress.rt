@@ -60,7 +60,8 @@ impl Progress {
     pub(crate) fn moment(&mut self, rt: &HostRuntime, done: u64, cycles: u32) -> io::Result<()> {
         if self.is_due(rt)? {
             let run = Which(self.run);
-            eprintln!(rt; "bench: {run}{done} of {cycles} cycles")?;
+            // A run goes on where nobody can be told how far it is.
+            let _ = eprintln!(rt; "bench: {run}{done} of {cycles} cycles");
         }
         Ok(())
     }

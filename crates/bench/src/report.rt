@@ -1,4 +1,5 @@
 // What is printed of a run.
+use crate::outcome::Outcome;
 use circuit::Refusal;
 use clocks::Bench;
 use misfit::Misfit;
@@ -79,25 +80,37 @@ impl fmt::Display for Found {
     }
 }
 
-// Runs of so many cycles, of which some differ: the first of these is the one from this number, and differs there.
+// How many runs were made, each of so many cycles. How many of them differ: the first is the one from this number, and
+// differs there. And how many could not be made, since by their number a told clock comes too soon: the first is the one
+// from this number.
 #[derive(Clone, Copy)]
 pub(crate) struct Tried {
-    pub(crate) runs: u32,
+    pub(crate) made: u32,
     pub(crate) cycles: u32,
     pub(crate) wrong: u32,
-    pub(crate) first: Option<(u64, Difference)>,
+    pub(crate) first_wrong: Option<(u32, Difference)>,
+    pub(crate) not_made: u32,
+    pub(crate) first_not_made: Option<u32>,
 }
 
 impl fmt::Display for Tried {
     fn fmt<W: fmt::Write>(&self, f: &mut fmt::Formatter<W>) -> fmt::Result {
-        let runs = Count(self.runs, "run");
+        let runs = Count(self.made, "run");
         let cycles = Count(self.cycles, "cycle");
-        match self.first {
-            None => write!(f, "{runs} of {cycles}, as drawn"),
+        match self.first_wrong {
+            None => write!(f, "{runs} of {cycles}, as drawn")?,
             Some((seed, difference)) => write!(
                 f,
                 "{runs} of {cycles}, {} not as drawn: first with random {seed}, {difference}",
                 self.wrong
+            )?,
+        }
+        match self.first_not_made {
+            None => Ok(()),
+            Some(seed) => write!(
+                f,
+                "; {} not made, as a told clock comes too soon: first with random {seed}",
+                self.not_made
             ),
         }
     }
@@ -111,11 +124,13 @@ pub(crate) enum Ended {
 }
 
 impl Ended {
-    // Whether some register was not as drawn.
-    pub(crate) fn differs(self) -> bool {
+    pub(crate) fn outcome(self) -> Outcome {
         match self {
-            Ended::Run(found) => found.first.is_some(),
-            Ended::Runs(tried) => tried.first.is_some(),
+            Ended::Run(Found { first: None, .. }) => Outcome::AsDrawn,
+            Ended::Run(_) => Outcome::NotAsDrawn,
+            Ended::Runs(tried) if tried.wrong > 0 => Outcome::NotAsDrawn,
+            Ended::Runs(tried) if tried.not_made > 0 => Outcome::TurnedAway,
+            Ended::Runs(_) => Outcome::AsDrawn,
         }
     }
 }
@@ -156,9 +171,9 @@ impl fmt::Display for Why {
         match self {
             Why::Line(_, Some(misfit)) => write!(f, "{misfit}"),
             Why::Line(_, None) => f.write_str("this clock does not come after the one before it"),
-            Why::Period => f.write_str("with a period of 0 no run is possible"),
+            Why::Period => f.write_str("the bench makes no run with a period of 0"),
             Why::Moment => f.write_str(
-                "with a setup and a latest output time of 0 a run may not be possible",
+                "the bench makes no run with a setup and a latest output time of 0",
             ),
         }
     }

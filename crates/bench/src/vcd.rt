@@ -1,10 +1,11 @@
 // A run as a value change dump, as viewers of waveforms read it.
+use anyhow::anyhow;
 use clocks::{Bench, Ticks};
 use std::alloc::AllocError;
-use std::fmt;
 use std::fmt::Write as _;
 use std::fs::File;
 use std::io::Write;
+use std::{fmt, fs};
 use trial::Trial;
 
 // What is collected is written out once it has more bytes than this.
@@ -82,6 +83,7 @@ struct Register {
 // A dump that is being written: what each signal showed last, and what is kept of each register.
 #[derive(Drop)]
 pub(crate) struct Dump {
+    path: String,
     file: File,
     text: String,
     // The changes of the moment that is being written.
@@ -92,8 +94,9 @@ pub(crate) struct Dump {
 
 impl Dump {
     // The beginning of the dump of a run.
-    pub(crate) fn new(rt: &HostRuntime, file: File, bench: Bench<'_>) -> anyhow::Result<Dump> {
+    pub(crate) fn new(rt: &HostRuntime, path: &str, bench: Bench<'_>) -> anyhow::Result<Dump> {
         let heap = rt.alloc();
+        let file = fs::create(rt, path).map_err(|e| anyhow!("{path}: {e}"))?;
         let registers = bench.circuit.register_count();
         let signals = bench.circuit.signal_count();
         let mut text = String::new(heap);
@@ -106,6 +109,7 @@ impl Dump {
             })?;
         }
         Ok(Dump {
+            path: String::from_str(heap, path)?,
             file,
             text,
             changes: String::new(heap),
@@ -166,7 +170,8 @@ impl Dump {
 
     // Writes out what was collected.
     fn flush(&mut self) -> anyhow::Result<()> {
-        self.file.write_all(self.text.as_bytes())?;
+        let written = self.file.write_all(self.text.as_bytes());
+        written.map_err(|e| anyhow!("{}: {e}", self.path))?;
         self.text.clear();
         Ok(())
     }

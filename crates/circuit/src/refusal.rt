@@ -28,8 +28,8 @@ pub enum Refusal {
     NoRoom(usize),
     // On the bench, a delay or a clock on this line is out of its bounds.
     OutOfBounds(usize),
-    // On the bench, the period is 0, with which no run is possible.
+    // On the bench, which makes no run with it: the period is 0.
     NoPeriod,
-    // On the bench, setup and latest output time are both 0, with which a run may not be possible.
+    // On the bench, which makes no run with them: setup and latest output time are both 0.
     NoMoment,
 }

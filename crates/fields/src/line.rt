@@ -8,7 +8,7 @@ use std::fmt;
 // What a line tells.
 #[derive(Clone, Copy, PartialEq, Debug)]
 pub enum Line {
-    // How many cycles are to be gone.
+    // How many cycles are to be run.
     Cycles,
     // The registers' bits at the start.
     Start,

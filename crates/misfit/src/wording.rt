@@ -26,10 +26,7 @@ impl fmt::Display for Misfit {
                 input,
                 bounded,
             } => write!(f, "gate {signal}: delay of the {input} {bounded}"),
-            Misfit::NoRegister(n) => write!(
-                f,
-                "a clock of a register that is not there: there are {n}"
-            ),
+            Misfit::NoRegister(n) => write!(f, "a clock of a register past the last, of {n}"),
             Misfit::Clock { register, bounded } => write!(
                 f,
                 "register {register}: clock {bounded}"

@@ -9,7 +9,7 @@ use crate::entry::Entry;
 use crate::kind::Kind;
 use std::alloc::{AllocError, Global};
 
-// How many cycles are to be gone; the registers' bits at the start, if these are told, 0 of those past the list's end; a
+// How many cycles are to be run; the registers' bits at the start, if these are told, 0 of those past the list's end; a
 // seed by which what is not told is chosen; and the statements of each kind.
 #[derive(Drop)]
 pub struct Script {

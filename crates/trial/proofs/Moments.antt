@@ -9,8 +9,9 @@ use Rattle.circuit.specs.declared.circuit.Circuit.{Circuit}
 use Rattle.circuit.specs.declared.refusal.Refusal.{Refusal}
 use Rattle.circuit.proofs.Joined.{small_registers, small_times}
 use Rattle.promise.specs.Machine.{Machine, machine_in}
-use Rattle.simulation.specs.Simulated.{Told, cycle}
-use Rattle.simulation.proofs.Running.{cycle_from}
+use Rattle.promise.specs.Run.{Run}
+use Rattle.simulation.specs.Simulated.{Told, cycle, run_bits, run_waves}
+use Rattle.simulation.proofs.Running.{cycle_from, simulated_is_run}
 use Rattle.step.specs.Lent.{TooFew, TellsRegister, clocks_at}
 use Rattle.step.specs.Stands.{Ready, Steps, Given, cycle_of}
 use Rattle.step.specs.declared.told.Clocks.{Clocks}
@@ -36,6 +37,10 @@ module _ (s : Script) (g r ts : List ℕ) where
 
   pub ready_of : ReadyToGo s g r ts → Ready m x
   ready_of ready = record { runnable = record { formed = ready.formed; some_moment = ready.some_moment }; may = may_be_told s g r ts ready.formed ready.some_period ready.fits }
+
+  -- it makes one of the runs that passing speaks of
+  pub run_of : ReadyToGo s g r ts → Run m x.start x.clock (run_bits m x) (run_waves m x)
+  run_of ready = let go = ready_of ready in simulated_is_run m x go.runnable go.may
 
   -- a cycle that has come began by now
   pub begun : (ready : ReadyToGo s g r ts) (t q : ℕ) → q < register_count r → (cycle m x q t * period ts ≤ t) × (cycle m x q t ≤ t)

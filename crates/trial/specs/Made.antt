@@ -7,7 +7,8 @@ use Rattle.circuit.specs.declared.refusal.Refusal.TheVariants.{NoRoom}
 use Rattle.promise.specs.Machine.{Machine, machine_in, Passed, drawing}
 use Rattle.script.specs.Told.{told_by}
 use Rattle.clocks.specs.declared.bench.Bench.{Bench}
-use Rattle.simulation.specs.Simulated.{Told, run_bits}
+use Rattle.promise.specs.Run.{Run}
+use Rattle.simulation.specs.Simulated.{Told, run_bits, run_waves}
 use Rattle.trial.specs.declared.room.Room.{Room}
 use Rattle.trial.specs.declared.running.Trial.{Trial}
 
@@ -18,9 +19,16 @@ machine_of y = of y.bench.circuit machine_in
 abbrev pub told_to : Trial → Told
 told_to y = of y.bench.circuit (told_by y.bench.script.now)
 
--- a run before its first moment, of the circuit and the script that it was given: no cycle is done
+-- what a script tells to a circuit makes one of the runs that passing speaks of
+abbrev pub IsRun : Bench → Type 0
+IsRun b =
+    Run (of b.circuit machine_in) (of b.circuit (told_by b.script.now)).start (of b.circuit (told_by b.script.now)).clock
+    (run_bits (of b.circuit machine_in) (of b.circuit (told_by b.script.now))) (run_waves (of b.circuit machine_in) (of b.circuit (told_by b.script.now)))
+
+-- a run before its first moment, of the circuit and the script that it was given, which is one of the runs that passing speaks of: no cycle is done
 pub record Begun (bench : Bench) (y : Trial) : Type 0 where
   pub bench_same : y.bench ≡ bench
+  pub is_run : IsRun bench
   pub moment : y.moment ≡ 0
   pub done : y.done ≡ 0
 

@@ -1,7 +1,7 @@
 #!/usr/bin/env python3
-"""Runs `pass` and `bench` on bad input: each has to be told clearly, with the file and the line, and end with status 1.
+"""Runs `pass` and `bench` on bad, odd and large input: what is wrong has to be told clearly, with the file and the line.
 
-    tests/bad_input.py      (needs built programs: ./muleminute pass --version and ./muleminute bench --version build them)"""
+    tests/odd_input.py      (needs built programs: ./muleminute pass --version and ./muleminute bench --version build them)"""
 import os
 import subprocess
 import sys
@@ -79,6 +79,8 @@ DELAYS = [
     (b"cycles 2\ntake 2 0 1\ntake 1 0 1\n", 3, "expected a cycle no earlier"),
     (b"cycles 2\n\x00\n", 2, "expected a line that begins with"),
     (b"cycles 0\n", None, " no cycle"),
+    (b"cycles 2\nclock 4 0 1\nclock 5 0 1\n", 3, "expected a cycle that begins before the run's end"),
+    (b"cycles 2\nclock 4294967295 0 1\n", 2, "expected a cycle that begins before the run's end"),
 ]
 
 # What is out of its bounds, by its line counted from 0.
@@ -88,7 +90,7 @@ OUTSIDE = [
     (b"cycles 2\n\ndelay 0 0 8 8\n", 2, "a delay of a signal that is no gate's"),
     (b"cycles 2\ndelay 0 2 8 8\n", 1, "a delay of a signal that is no gate's"),
     (b"cycles 2\nclock 1 0 3\n", 1, "register 0: clock 3 is not within 0 to 2"),
-    (b"cycles 2\nclock 1 1 0\n", 1, "a clock of a register that is not there"),
+    (b"cycles 2\nclock 1 1 0\n", 1, "a clock of a register past the last"),
 ]
 
 
@@ -170,10 +172,62 @@ def check_arguments(folder):
     same(run("bench", "-", told, stdin=GOOD), run("bench", good, told), "standard input")
 
 
+def check_long(folder):
+    """A long run tells how far it is, unless that is not wanted; what cannot be written is told."""
+    good = folder.file("good", GOOD)
+    endless = folder.file("endless", b"cycles 4294967295\nrandom 1\n")
+    path = os.path.join(TOP, "crates", "bench", "out", "bench")
+    with subprocess.Popen([path, good, endless], stdout=subprocess.DEVNULL, stderr=subprocess.PIPE) as run_:
+        line = run_.stderr.readline().decode()
+        run_.kill()
+    assert line.startswith("bench: ") and line.endswith(" of 4294967295 cycles\n"), line
+    status, out, err = run("bench", "--quiet", "--trials", "1", good, folder.file("some", b"cycles 300000\nrandom 1\n"))
+    same((status, out, err), (0, "1 run of 300000 cycles, as drawn\n", ""), "--quiet")
+    if os.path.exists("/dev/full"):
+        status, out, err = run("bench", good, folder.file("told", TOLD), "--vcd", "/dev/full")
+        assert status == 1 and err.startswith("bench: /dev/full: "), (status, err)
+        with open("/dev/full", "w") as full:
+            done = subprocess.run([path, good, folder.file("told", TOLD)], stdout=full, stderr=subprocess.PIPE)
+        assert done.returncode == 1 and done.stderr.startswith(b"bench: "), done
+
+
+def check_limits(folder):
+    """The largest circuit with the largest delays, and one too large."""
+    registers = "".join("register %d 0 1000000\n" % (1024 + r) for r in range(1024))
+    gate = "gate 0 0 nor 1000000 1000000 1000000 1000000\n"
+    text = "circuit\ntimes 1000000 0 1 0 0\n" + registers.replace("1000000", "0") + gate.replace("1000000", "9") * 16384 + "end\n"
+    told = folder.file("few", b"cycles 1\n")
+    status, out, err = run("bench", folder.file("large", text.replace("times 1000000", "times 20").encode()), told)
+    assert status == 0 and out.endswith("1 cycle, as drawn\n"), (status, out[-200:], err)
+    for more, word in ((registers[:registers.index("\n") + 1], "2 at 0"), (gate, "2 at 1")):
+        status, out, err = run("bench", folder.file("large", text.replace("end\n", more + "end\n").encode()), told)
+        assert status == 1 and out.startswith("turned away by %s: " % word), (out, err)
+    one = GOOD.replace(b"20 2 4", b"1000000 2 4").replace(b"3 8 3 8", b"1 1000000 0 1000000")
+    status, out, err = run("bench", folder.file("slow", one), folder.file("told", b"cycles 1\ndelay 0 1 1000000 1000000\n"))
+    assert out != "" and "cycle" in out.splitlines()[-1], (status, out, err)
+
+
+def check_trials(folder):
+    """A run that is not made by its number alone is counted apart; numbers go on from 0."""
+    skew = folder.file("skew", b"circuit skew\ntimes 10 2 4 3 1\nregister 0 0 30\nend\n")
+    told = folder.file("told", b"cycles 4\nrandom 1\nclock 2 0 12\n")
+    status, out, err = run("bench", skew, told, "--trials", "20")
+    assert status == 1 and " not made, as a told clock comes too soon: first with random " in out, (out, err)
+    number = out.split()[-1]
+    status, out, err = run("bench", skew, folder.file("told", b"cycles 4\nrandom %s\nclock 2 0 12\n" % number.encode()))
+    assert status == 1 and out.startswith("skew: turned away by 9 at 2: this clock does not come after"), (out, err)
+    wrong = folder.file("wrong", b"circuit\ntimes 18 2 4 3 1\nregister 2 0 2\nregister 0 0 2\ngate 0 0 nor 3 8 3 8\nend\n")
+    status, out, err = run("bench", wrong, folder.file("told", b"cycles 1\nrandom 4294967295\n"), "--trials", "200")
+    number = int(out.split("random ")[1].split(",")[0])
+    assert status == 1 and number < 2 ** 32, out
+    status, out, err = run("bench", wrong, folder.file("told", b"cycles 1\nrandom %d\n" % number))
+    assert status == 1 and "not as drawn" in out, out
+
+
 def main():
     with tempfile.TemporaryDirectory() as path:
         folder = Folder(path)
-        for check in (check_pass, check_files, check_bench, check_arguments):
+        for check in (check_pass, check_files, check_bench, check_arguments, check_long, check_limits, check_trials):
             check(folder)
     print("bad input is told: %d texts of circuits, %d of delays, files and arguments"
           % (len(CIRCUITS) + len(REFUSED), len(DELAYS) + len(OUTSIDE)))
