@@ -49,12 +49,19 @@ fn circuit_of(heap: Global, seed: u64) -> Result<Chosen, AllocError> {
     for k in n..n + m {
         let (one, two) = (series.next(0, 9), series.next(0, 9));
         let (more_one, more_two) = (series.next(one, 18), series.next(two, 18));
-        let (a, b) = (series.next(0, k - 1), series.next(0, k - 1));
+        let (a, b) = (
+            series.next(0, k.saturating_sub(1)),
+            series.next(0, k.saturating_sub(1)),
+        );
         gates.extend_from_slice(&[a, b, series.next(0, 15), one, more_one, two, more_two])?;
     }
     for _ in 0..n {
         let early = series.next(0, 2);
-        registers.extend_from_slice(&[series.next(0, n + m - 1), early, series.next(early, 4)])?;
+        registers.extend_from_slice(&[
+            series.next(0, (n + m).saturating_sub(1)),
+            early,
+            series.next(early, 4),
+        ])?;
     }
     let output = series.next(0, 6);
     let times = [
