@@ -1,13 +1,19 @@
 -- The text of a circuit, as it is written.
-use Rattle.std.specs.Prelude.{ℕ, zero, suc, Bool, ◌&&◌, List, [], ◌∷◌, ◌++◌, map, codes}
+use Rattle.std.specs.Prelude.{◌≡◌, ℕ, zero, suc, Bool, true, false, ◌&&◌, ◌⊎◌, List, [], ◌∷◌, ◌++◌, map, codes, Option, Result, String, MatchOption, MatchResult}
+use Rattle.std.specs.Borrow.{Bor}
 use Rattle.std.specs.Fmt.{decimal}
 use Rattle.std.specs.List.{list_all}
+use Rattle.std.specs.String.{string_bytes}
+use Rattle.circuit.specs.Checked.{of}
 use Rattle.circuit.specs.Lent.{gate_count, gate_in, register_count, register_in, period, output_early, output_late, setup, hold}
+use Rattle.circuit.specs.declared.circuit.Circuit.{Circuit}
 use Rattle.circuit.specs.declared.gate.Gate.{Gate}
 use Rattle.circuit.specs.declared.register.Register.{Register}
 use Rattle.lines.specs.Words.{plain}
 use Rattle.fields.specs.Fields.{name_of}
 use Rattle.text.specs.Meaning.{printable}
+use Rattle.writing.specs.declared.Unwritten.{Unwritten}
+use Rattle.writing.specs.declared.Unwritten.TheVariants.{Name, Memory}
 
 -- words, each after a space, and the newline that ends a line
 abbrev pub ended : List (List ℕ) → List ℕ
@@ -57,3 +63,14 @@ written name gates registers times =
 -- a byte that a name may have where it is written: printable, and no number sign, with which a comment begins
 abbrev pub nameable : ℕ → Bool
 nameable b = printable b && plain b
+
+-- a name, or None where it could not be read again
+abbrev pub IsTitled : (name : List ℕ) → Option (Bor (List ℕ)) → Type 0
+IsTitled name r = MatchOption r (list_all nameable name ≡ false) (λ s. (list_all nameable name ≡ true) × (s.now ≡ name))
+
+-- the answer r to a circuit that is to be written under a name
+abbrev pub IsWritten : (name : List ℕ) → Circuit → {Z : Type 0} → Result (String Z) Unwritten → Type 0
+IsWritten name c r =
+    MatchResult r
+    (λ text. (list_all nameable name ≡ true) × (string_bytes text ≡ of c (written name)))
+    (λ e. (e ≡ Memory) ⊎ ((e ≡ Name) × (list_all nameable name ≡ false)))

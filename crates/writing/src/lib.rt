@@ -6,7 +6,8 @@ ghost use Rattle.std.specs.List.{list_all};
 ghost use Rattle.std.specs.String.{string_bytes};
 ghost use Rattle.circuit.specs.Checked.{of, gates_of, registers_of};
 ghost use Rattle.circuit.specs.Lent.{gate_in, register_in};
-ghost use Rattle.writing.specs.Written.{line_of, rows, title_of, times_line, register_line, gate_line, written, nameable};
+ghost use Rattle.writing.specs.declared.Unwritten.TheVariants.{Memory};
+ghost use Rattle.writing.specs.Written.{line_of, rows, title_of, times_line, register_line, gate_line, written, nameable, IsTitled, IsWritten};
 
 use circuit::{Circuit, Gate, Register};
 use std::alloc::{AllocError, Global};
@@ -21,6 +22,8 @@ pub enum Unwritten {
 }
 
 impl From<AllocError> for Unwritten {
+    ghost from_gives = { λ _ e. e ≡ Memory };
+
     fn from(_: AllocError) -> Unwritten {
         Unwritten::Memory
     }
@@ -31,6 +34,17 @@ fn is_nameable(name: &[u8]) -> bool
     ensures { result ≡ list_all nameable name.now }
 {
     name.iter().all(|b| b.is_ascii_graphic() && *b != b'#')
+}
+
+// A name as text, None where it could not be read again.
+fn titled(name: &[u8]) -> Option<&str>
+    ensures { IsTitled name.now result }
+{
+    if is_nameable(name) {
+        str::from_utf8(name).ok()
+    } else {
+        None
+    }
 }
 
 // The line that begins a circuit; an empty name is left out.
@@ -102,4 +116,27 @@ fn put_gates(text: &mut String, circuit: Circuit<'_>) -> Result<(), AllocError>
         put_gate(text, Gate::from(*row))?;
     }
     Ok(())
+}
+
+// The text of a circuit.
+fn put(text: &mut String, name: &str, circuit: Circuit<'_>) -> Result<(), AllocError>
+    ensures { OnOk result (string_bytes text.new ≡ string_bytes text.old ++ of circuit.entry (written name.now)) }
+{
+    put_title(text, name)?;
+    put_times(text, circuit)?;
+    put_registers(text, circuit)?;
+    put_gates(text, circuit)?;
+    text.push_str("end\n")?;
+    Ok(())
+}
+
+// The text of a circuit, which gives its name and its numbers when it is read again. A name that could not be read is
+// turned away.
+pub fn write(heap: Global, name: &[u8], circuit: Circuit<'_>) -> Result<String, Unwritten>
+    ensures { IsWritten name.now circuit.entry result }
+{
+    let name = titled(name).ok_or(Unwritten::Name)?;
+    let mut text = String::new(heap);
+    put(&mut text, name, circuit)?;
+    Ok(text)
 }
