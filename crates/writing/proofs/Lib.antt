@@ -1,2 +1,5 @@
+pub mod FieldLaws
+pub mod LineLaws
 pub mod NameLaws
+pub mod NumberLaws
 pub mod TextLaws

@@ -7,6 +7,7 @@ ghost use Rattle.std.specs.String.{string_bytes};
 ghost use Rattle.circuit.specs.Checked.{of, gates_of, registers_of};
 ghost use Rattle.circuit.specs.Lent.{gate_in, register_in};
 ghost use Rattle.writing.specs.declared.Unwritten.TheVariants.{Memory};
+ghost use Rattle.writing.specs.Again.{WrittenIsRead};
 ghost use Rattle.writing.specs.Written.{line_of, rows, title_of, times_line, register_line, gate_line, written, nameable, IsTitled, IsWritten};
 
 use circuit::{Circuit, Gate, Register};
@@ -139,4 +140,11 @@ pub fn write(heap: Global, name: &[u8], circuit: Circuit<'_>) -> Result<String, 
     let mut text = String::new(heap);
     put(&mut text, name, circuit)?;
     Ok(text)
+}
+
+// What is written is read again.
+pub fn written_is_read() -> u8
+    ensures { WrittenIsRead }
+{
+    0
 }

@@ -1,0 +1,26 @@
+-- What is written is read again.
+use Rattle.std.specs.Prelude.{◌≡◌, ℕ, ◌+◌, true, List, [], ◌++◌, Some, None, Ok, Result, MatchResult, String}
+use Rattle.std.specs.List.{list_all}
+use Rattle.std.specs.String.{string_bytes}
+use Rattle.circuit.specs.Checked.{of}
+use Rattle.circuit.specs.Lent.{gate_count, register_count}
+use Rattle.circuit.specs.Whole.{Whole}
+use Rattle.circuit.specs.declared.circuit.Circuit.{Circuit}
+use Rattle.lines.specs.Words.{lines}
+use Rattle.text.specs.Meaning.{Drafted, first_circuit}
+use Rattle.writing.specs.Written.{written, nameable}
+
+-- a circuit of just these numbers, under its name, that began on line n, and in which no line is miscounted
+abbrev pub read_again : (name : List ℕ) (n : ℕ) (gates registers times : List ℕ) → Drafted
+read_again name n gates registers times = record { name = name; line = n; gates = gates; registers = registers; times = times; miscount = None }
+
+-- how many lines it has: those of its registers and gates, and three more
+abbrev pub line_count : (gates registers times : List ℕ) → ℕ
+line_count gates registers times = 3 + register_count registers + gate_count gates
+
+-- WHAT IS WRITTEN IS READ AGAIN: of a whole circuit under a name that could be read, wherever its text stands among others,
+-- the reader gets that name and just its numbers, and what follows is still to be read
+abbrev pub WrittenIsRead : Type 0
+WrittenIsRead =
+    (name gates registers times more : List ℕ) (n : ℕ) → list_all nameable name ≡ true → Whole gates registers times
+    → first_circuit n (lines (written name gates registers times ++ more)) ≡ Ok (Some (read_again name n gates registers times, n + line_count gates registers times, lines more))
