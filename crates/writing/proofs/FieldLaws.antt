@@ -2,7 +2,7 @@
 use Rattle.std.proofs.Common.{◌≡◌, ℕ, zero, suc, ◌+◌, ◌^◌, ◌<◌, ◌≤◌, Bool, true, false, cond, ◌&&◌, eqb, List, [], ◌∷◌, length, map, get_or, Some, Ok, Err, Option, Result, sym, refl, ap, ◌∙◌, arith}
 use Rattle.std.specs.Fmt.{decimal}
 use Rattle.std.specs.Int.{IsInRange}
-use Rattle.std.specs.List.{list_all, All}
+use Rattle.std.specs.List.{list_all}
 use Rattle.std.specs.Str.{all_ascii_digits}
 use Rattle.std.proofs.lemmas.Bool.{and_parts, ne_eqb, lt-ltb, eqb-true}
 use Rattle.std.proofs.lemmas.Fmt.{digits_decimal, digits_value-decimal, decimal_nonempty}
@@ -17,7 +17,8 @@ use Rattle.writing.proofs.LineLaws.{dark, is_word, IsWord, AreWords}
 
 -- numbers that can be read
 abbrev pub AreSmall : List ℕ → Type 0
-AreSmall ns = All (λ n. n < 2 ^ 32) ns
+AreSmall [] = Unit {0}
+AreSmall (n ∷ ns) = (n < 2 ^ 32) × AreSmall ns
 
 dark_digit : (c : ℕ) → IsInRange 48 57 c → dark c ≡ true
 unfolding blank

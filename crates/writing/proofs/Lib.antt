@@ -1,5 +1,7 @@
+pub mod AgainLaws
 pub mod FieldLaws
 pub mod LineLaws
 pub mod NameLaws
 pub mod NumberLaws
+pub mod RowLaws
 pub mod TextLaws

@@ -1,5 +1,5 @@
 -- Laws of a line of words: it is read as that line, and its words are read as those words.
-use Rattle.std.proofs.Common.{◌≡◌, ℕ, suc, ◌+◌, ◌<◌, ◌≤◌, Bool, true, false, not, ◌&&◌, List, [], ◌∷◌, ◌++◌, length, sym, refl, ap, ◌∙◌, append_assoc, one-add, arith}
+use Rattle.std.proofs.Common.{◌≡◌, ℕ, suc, ◌+◌, ◌<◌, ◌≤◌, Bool, true, false, not, ◌&&◌, List, [], ◌∷◌, ◌++◌, length, sym, refl, ap, ◌∙◌, inl, inr, append_assoc, one-add, arith}
 use Rattle.std.specs.List.{list_all, prefix_len}
 use Rattle.std.proofs.lemmas.Bool.{and_parts, cases_Bool}
 use Rattle.std.proofs.lemmas.List.{take_all}
@@ -46,7 +46,6 @@ all_dark [] h = refl
 all_dark (b ∷ bs) h = h
 
 calm_spaced : (ws : List (List ℕ)) → AreWords ws → Calm (spaced ws)
-unfolding inline plain
 calm_spaced [] h = refl
 calm_spaced (w ∷ ws) h = let p = and_parts (is_word w) (list_all is_word ws) h in calm_append w (spaced ws) (all_dark w p.0) (calm_spaced ws p.1)
 

@@ -1,6 +1,7 @@
 -- Laws of rows of numbers, as they are taken out of a list one after another.
 use Rattle.std.proofs.Common.{◌≡◌, ℕ, zero, suc, ◌+◌, ◌-◌, ◌*◌, ◌<◌, ◌≤◌, List, [], ◌∷◌, ◌++◌, length, get_or, take, drop, sym, refl, ap, ◌∙◌, length-drop, add-zero, lit<, arith}
-use Rattle.std.proofs.lemmas.List.{get_or-take, get_or-drop}
+use Rattle.std.proofs.lemmas.List.{get_or-take, get_or-drop, length-take-le}
+use Rattle.std.proofs.Math.Seq.{take-add}
 use Rattle.circuit.specs.Lent.{gate_in, gate_of, register_in, register_of, period, output_early, output_late, setup, hold}
 use Rattle.circuit.specs.declared.gate.Gate.{Gate}
 use Rattle.circuit.specs.declared.register.Register.{Register}
@@ -37,13 +38,13 @@ module _ (m k : ℕ) (xs : List ℕ) (room : m * k + m ≤ length xs) where
   the_row = take m (drop (m * k) xs)
 
   row_length : length the_row ≡ m
-  row_length = ?
+  row_length = let l = length-drop (m * k) xs in length-take-le m (drop (m * k) xs) (omega arith)
 
   row_at : (j : ℕ) → j < m → get_or the_row j 0 ≡ get_or xs (m * k + j) 0
   row_at j l = get_or-take m (drop (m * k) xs) j 0 l ∙ get_or-drop (m * k) xs j 0
 
   row_next : take (m * suc k) xs ≡ take (m * k) xs ++ the_row
-  row_next = ?
+  row_next = let e : m * suc k ≡ m * k + m = omega arith in ap (λ i. take i xs) e ∙ take-add (m * k) m xs
 
 pub next_gate : (k : ℕ) (xs : List ℕ) → 7 * k + 7 ≤ length xs → take (7 * suc k) xs ≡ take (7 * k) xs ++ gate_numbers (gate_in xs k)
 next_gate k xs room = row_next 7 k xs room ∙ ap (λ t. take (7 * k) xs ++ t) (sym (listed_n 7 _ (row_length 7 k xs room)) ∙ ap gate_numbers (gate_like _ xs k (row_at 7 k xs room)))
