@@ -3,14 +3,17 @@ use Rattle.std.proofs.Common.{◌≡◌, ℕ, zero, suc, ◌+◌, ◌-◌, ◌*�
 use Rattle.std.specs.List.{list_all}
 use Rattle.std.proofs.lemmas.Bool.{and_parts, ne_eqb}
 use Rattle.std.proofs.lemmas.List.{take_all}
+use Rattle.circuit.specs.Checked.{of}
 use Rattle.circuit.specs.Lent.{gate_count, gate_in, register_count, register_in}
 use Rattle.circuit.specs.Whole.{Whole}
+use Rattle.circuit.specs.declared.circuit.Circuit.{Circuit}
+use Rattle.circuit.proofs.Known.{whole_of}
 use Rattle.circuit.proofs.Joined.{small_gates, small_registers, small_times}
 use Rattle.lines.specs.Words.{blank, plain, lines}
 use Rattle.fields.specs.declared.fault.Expected.{Expected}
 use Rattle.text.specs.Meaning.{Drafted, Outcome, inside, first_circuit, fresh, printable, title}
 use Rattle.writing.specs.Written.{line_of, rows, title_of, times_line, register_line, gate_line, end_line, written, nameable}
-use Rattle.writing.specs.Again.{read_again, line_count, WrittenIsRead}
+use Rattle.writing.specs.Again.{read_again, line_count, WrittenIsRead, IsReadAgain}
 use Rattle.writing.proofs.LineLaws.{dark, IsWord, AreWords, line_outside}
 use Rattle.writing.proofs.NameLaws.{printed}
 use Rattle.writing.proofs.FieldLaws.{AreSmall}
@@ -44,7 +47,7 @@ print_names (b ∷ bs) h =
     let q = and_parts (printable b) (plain b) p.0 in
     rw (q.0, print_names bs p.1) refl
 
-title_words : (name : List ℕ) → list_all nameable name ≡ true → AreWords (title_of name)
+pub title_words : (name : List ℕ) → list_all nameable name ≡ true → AreWords (title_of name)
 title_words [] h = refl
 title_words (b ∷ bs) h = rw (dark_names (b ∷ bs) h) refl
 
@@ -52,24 +55,24 @@ title_read : (name : List ℕ) → list_all nameable name ≡ true → title (ti
 title_read [] h = refl
 title_read (b ∷ bs) h = rw (print_names (b ∷ bs) h) refl
 
-circuit_word : IsWord (codes "circuit")
+pub circuit_word : IsWord (codes "circuit")
 unfolding blank
 circuit_word = refl
 
-begin_read : (n : ℕ) (name more : List ℕ) → list_all nameable name ≡ true → first_circuit n (lines (line_of (codes "circuit") (title_of name) ++ more)) ≡ inside (n + 1) (fresh name n) (lines more)
+pub begin_read : (n : ℕ) (name more : List ℕ) → list_all nameable name ≡ true → first_circuit n (lines (line_of (codes "circuit") (title_of name) ++ more)) ≡ inside (n + 1) (fresh name n) (lines more)
 begin_read n name more h = line_outside (codes "circuit") (title_of name) circuit_word (title_words name h) n more ∙ rw (title_read name h) refl
 
 module _ (gates registers times : List ℕ) (w : Whole gates registers times) where
   low : (x : ℕ) → x ≤ 1000000 → x < 2 ^ 32
   low x h = omega arith
 
-  gate_small : (k : ℕ) → AreSmall (gate_numbers (gate_in gates k))
+  pub gate_small : (k : ℕ) → AreSmall (gate_numbers (gate_in gates k))
   gate_small k = let at : (i : ℕ) → get_or gates i 0 < 2 ^ 32 = λ i. low (get_or gates i 0) (small_gates gates registers times w.small i) in (at _, (at _, (at _, (at _, (at _, (at _, (at _, tt)))))))
 
-  register_small : (r : ℕ) → AreSmall (register_numbers (register_in registers r))
+  pub register_small : (r : ℕ) → AreSmall (register_numbers (register_in registers r))
   register_small r = let at : (i : ℕ) → get_or registers i 0 < 2 ^ 32 = λ i. low (get_or registers i 0) (small_registers gates registers times w.small i) in (at _, (at _, (at _, tt)))
 
-  times_small : AreSmall (time_numbers times)
+  pub times_small : AreSmall (time_numbers times)
   times_small = let at : (i : ℕ) → get_or times i 0 < 2 ^ 32 = λ i. low (get_or times i 0) (small_times gates registers times w.small i) in (at _, (at _, (at _, (at _, (at _, tt)))))
 
   all_gates : take (7 * gate_count gates) gates ≡ gates
@@ -96,7 +99,7 @@ module _ (gates registers times : List ℕ) (w : Whole gates registers times) wh
         (register_count registers) (omega arith) n d more
       ∙ rw all_registers refl
 
-  the_times_read : (n : ℕ) (d : Drafted) (more : List ℕ) → inside n d (lines (times_line times ++ more)) ≡ inside (n + 1) (more_times d times) (lines more)
+  pub the_times_read : (n : ℕ) (d : Drafted) (more : List ℕ) → inside n d (lines (times_line times ++ more)) ≡ inside (n + 1) (more_times d times) (lines more)
   the_times_read n d more = times_read n d times more times_small ∙ ap (λ xs. inside (n + 1) (more_times d xs) (lines more)) (times_listed times w.shaped.2)
 
 pub written_is_read : WrittenIsRead
@@ -114,3 +117,8 @@ written_is_read name gates registers times more n named w =
     ∙ gates_read gates registers times w (n + 1 + 1 + r) _ (end_line ++ more)
     ∙ end_read (n + 1 + 1 + r + g) (read_again name n gates registers times) more
     ∙ ap (λ m. Ok (Some (read_again name n gates registers times, m, lines more))) e
+
+-- the text of a circuit alone
+pub read_alone : (name : List ℕ) (c : Circuit) (t : List ℕ) → list_all nameable name ≡ true → t ≡ of c (written name) → IsReadAgain name c t
+unfolding lines
+read_alone name c t named is = ap (λ s. first_circuit 1 (lines s)) (is ∙ sym (append-nil (of c (written name)))) ∙ written_is_read name c.gates.now c.registers.now c.times.now [] 1 named (whole_of c)

@@ -1,4 +1,5 @@
 pub mod AgainLaws
+pub mod CutLaws
 pub mod FieldLaws
 pub mod LineLaws
 pub mod NameLaws

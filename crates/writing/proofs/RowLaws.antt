@@ -24,15 +24,15 @@ more_registers d xs = with_registers d (d.registers ++ xs) d.miscount
 abbrev pub more_times : Drafted → List ℕ → Drafted
 more_times d xs = with_times d (d.times ++ xs) d.miscount
 
-gate_word : IsWord (codes "gate")
+pub gate_word : IsWord (codes "gate")
 unfolding blank
 gate_word = refl
 
-register_word : IsWord (codes "register")
+pub register_word : IsWord (codes "register")
 unfolding blank
 register_word = refl
 
-times_word : IsWord (codes "times")
+pub times_word : IsWord (codes "times")
 unfolding blank
 times_word = refl
 
@@ -53,10 +53,10 @@ register_read n d r more small =
     ∙ rw (fields_decimal None 0 (register_numbers r) small) refl
 
 module _ (g : Gate) (small : AreSmall (gate_numbers g)) (table : g.table < 16) where
-  abbrev the_words : List (List ℕ)
+  abbrev pub the_words : List (List ℕ)
   the_words = decimal g.one ∷ decimal g.two ∷ name_of g.table ∷ map decimal (g.least_one ∷ g.greatest_one ∷ g.least_two ∷ g.greatest_two ∷ [])
 
-  gate_words : AreWords the_words
+  pub gate_words : AreWords the_words
   gate_words = rw (word_decimal g.one small.0, word_decimal g.two small.1.0, word_name g.table table, words_decimal (g.least_one ∷ g.greatest_one ∷ g.least_two ∷ g.greatest_two ∷ []) small.1.1.1) refl
 
   gate_fields : fields (Some 2) 0 7 the_words ≡ Ok (Some (gate_numbers g))

@@ -1,7 +1,6 @@
 -- What is written is read again.
-use Rattle.std.specs.Prelude.{◌≡◌, ℕ, ◌+◌, true, List, [], ◌++◌, Some, None, Ok, Result, MatchResult, String}
+use Rattle.std.specs.Prelude.{◌≡◌, ℕ, ◌+◌, ◌<◌, true, List, [], ◌++◌, length, take, Some, None, Ok}
 use Rattle.std.specs.List.{list_all}
-use Rattle.std.specs.String.{string_bytes}
 use Rattle.circuit.specs.Checked.{of}
 use Rattle.circuit.specs.Lent.{gate_count, register_count}
 use Rattle.circuit.specs.Whole.{Whole}
@@ -24,3 +23,14 @@ abbrev pub WrittenIsRead : Type 0
 WrittenIsRead =
     (name gates registers times more : List ℕ) (n : ℕ) → list_all nameable name ≡ true → Whole gates registers times
     → first_circuit n (lines (written name gates registers times ++ more)) ≡ Ok (Some (read_again name n gates registers times, n + line_count gates registers times, lines more))
+
+-- the same of the text t alone that was written of a circuit: nothing is left
+abbrev pub IsReadAgain : (name : List ℕ) → Circuit → (t : List ℕ) → Type 0
+IsReadAgain name c t = first_circuit 1 (lines t) ≡ Ok (Some (of c (read_again name 1), 1 + of c line_count, []))
+
+-- A TEXT THAT IS CUT SHORT IS NO CIRCUIT: of the first m bytes of a written text, unless no more than its last newline is
+-- missing, the reader gets no circuit
+abbrev pub CutShort : Type 0
+CutShort =
+    (name gates registers times : List ℕ) (m n : ℕ) → list_all nameable name ≡ true → Whole gates registers times → m + 1 < length (written name gates registers times)
+    → (x : Drafted × ℕ × List (List ℕ)) → first_circuit n (lines (take m (written name gates registers times))) ≡ Ok (Some x) → ⊥

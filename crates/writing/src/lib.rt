@@ -1,13 +1,13 @@
 // Circuits, written as text.
 #![tactic(auto)]
 
-ghost use Rattle.std.specs.Prelude.{◌≡◌, ◌++◌, codes, OnOk};
+ghost use Rattle.std.specs.Prelude.{◌≡◌, ◌++◌, codes, OnOk, IfOk};
 ghost use Rattle.std.specs.List.{list_all};
 ghost use Rattle.std.specs.String.{string_bytes};
 ghost use Rattle.circuit.specs.Checked.{of, gates_of, registers_of};
 ghost use Rattle.circuit.specs.Lent.{gate_in, register_in};
 ghost use Rattle.writing.specs.declared.Unwritten.TheVariants.{Memory};
-ghost use Rattle.writing.specs.Again.{WrittenIsRead};
+ghost use Rattle.writing.specs.Again.{IsReadAgain, WrittenIsRead, CutShort};
 ghost use Rattle.writing.specs.Written.{line_of, rows, title_of, times_line, register_line, gate_line, written, nameable, IsTitled, IsWritten};
 
 use circuit::{Circuit, Gate, Register};
@@ -131,10 +131,12 @@ fn put(text: &mut String, name: &str, circuit: Circuit<'_>) -> Result<(), AllocE
     Ok(())
 }
 
-// The text of a circuit, which gives its name and its numbers when it is read again. A name that could not be read is
-// turned away.
+// The text of a circuit, which gives its name and its numbers when it is read again. A name that could not be read again
+// is turned away.
+#[tactic(auto, using(crate::proofs::AgainLaws::read_alone))]
 pub fn write(heap: Global, name: &[u8], circuit: Circuit<'_>) -> Result<String, Unwritten>
-    ensures { IsWritten name.now circuit.entry result }
+    ensures written { IsWritten name.now circuit.entry result }
+    ensures again { IfOk result (λ text. IsReadAgain name.now circuit.entry (string_bytes text)) }
 {
     let name = titled(name).ok_or(Unwritten::Name)?;
     let mut text = String::new(heap);
@@ -145,6 +147,13 @@ pub fn write(heap: Global, name: &[u8], circuit: Circuit<'_>) -> Result<String, 
 // What is written is read again.
 pub fn written_is_read() -> u8
     ensures { WrittenIsRead }
+{
+    0
+}
+
+// A text that is cut short is no circuit.
+pub fn cut_short() -> u8
+    ensures { CutShort }
 {
     0
 }
