@@ -1,5 +1,5 @@
 -- What is written is read again.
-use Rattle.std.proofs.Common.{◌≡◌, ℕ, zero, suc, ◌+◌, ◌-◌, ◌*◌, ◌/◌, ◌%◌, ◌^◌, ◌<◌, ◌≤◌, ◌&&◌, true, false, List, [], ◌∷◌, ◌++◌, map, codes, length, take, get_or, Some, None, Ok, Err, Option, Result, sym, refl, ap, ◌∙◌, append_assoc, append-nil, arith}
+use Rattle.std.proofs.Common.{◌≡◌, ℕ, ◌+◌, ◌*◌, ◌^◌, ◌<◌, ◌≤◌, true, List, [], ◌∷◌, ◌++◌, codes, take, get_or, Some, Ok, sym, refl, ap, ◌∙◌, append_assoc, append-nil, arith}
 use Rattle.std.specs.List.{list_all}
 use Rattle.std.proofs.lemmas.Bool.{and_parts, ne_eqb}
 use Rattle.std.proofs.lemmas.List.{take_all}
@@ -10,10 +10,9 @@ use Rattle.circuit.specs.declared.circuit.Circuit.{Circuit}
 use Rattle.circuit.proofs.Known.{whole_of}
 use Rattle.circuit.proofs.Joined.{small_gates, small_registers, small_times}
 use Rattle.lines.specs.Words.{blank, plain, lines}
-use Rattle.fields.specs.declared.fault.Expected.{Expected}
-use Rattle.text.specs.Meaning.{Drafted, Outcome, inside, first_circuit, fresh, printable, title}
+use Rattle.text.specs.Meaning.{Drafted, inside, first_circuit, fresh, printable, title}
 use Rattle.writing.specs.Written.{line_of, rows, title_of, times_line, register_line, gate_line, end_line, written, nameable}
-use Rattle.writing.specs.Again.{read_again, line_count, WrittenIsRead, IsReadAgain}
+use Rattle.writing.specs.Again.{read_again, WrittenIsRead, IsReadAgain}
 use Rattle.writing.proofs.LineLaws.{dark, IsWord, AreWords, line_outside}
 use Rattle.writing.proofs.NameLaws.{printed}
 use Rattle.writing.proofs.FieldLaws.{AreSmall}
@@ -84,19 +83,19 @@ module _ (gates registers times : List ℕ) (w : Whole gates registers times) wh
   gates_read : (n : ℕ) (d : Drafted) (more : List ℕ) → inside n d (lines (rows (λ k. gate_line (gate_in gates k)) (gate_count gates) ++ more)) ≡ inside (n + gate_count gates) (more_gates d gates) (lines more)
   gates_read n d more =
       rows_read (λ k. gate_line (gate_in gates k)) more_gates (λ k. gate_numbers (gate_in gates k)) 7 (gate_count gates) gates
-        (λ d. rw append-nil refl) (λ d ys zs. rw append_assoc refl)
-        (λ k h. next_gate k gates (omega (arith, h)))
-        (λ k n d more h. gate_read (gate_in gates k) (gate_small k) (omega (arith, (w.placed k h).2)) n d more)
-        (gate_count gates) (omega arith) n d more
+      (λ d. rw append-nil refl) (λ d ys zs. rw append_assoc refl)
+      (λ k h. next_gate k gates (omega (arith, h)))
+      (λ k n d more h. gate_read (gate_in gates k) (gate_small k) (omega (arith, (w.placed k h).2)) n d more)
+      (gate_count gates) (omega arith) n d more
       ∙ rw all_gates refl
 
   registers_read : (n : ℕ) (d : Drafted) (more : List ℕ) → inside n d (lines (rows (λ r. register_line (register_in registers r)) (register_count registers) ++ more)) ≡ inside (n + register_count registers) (more_registers d registers) (lines more)
   registers_read n d more =
       rows_read (λ r. register_line (register_in registers r)) more_registers (λ r. register_numbers (register_in registers r)) 3 (register_count registers) registers
-        (λ d. rw append-nil refl) (λ d ys zs. rw append_assoc refl)
-        (λ r h. next_register r registers (omega (arith, h)))
-        (λ r n d more h. register_read n d (register_in registers r) more (register_small r))
-        (register_count registers) (omega arith) n d more
+      (λ d. rw append-nil refl) (λ d ys zs. rw append_assoc refl)
+      (λ r h. next_register r registers (omega (arith, h)))
+      (λ r n d more h. register_read n d (register_in registers r) more (register_small r))
+      (register_count registers) (omega arith) n d more
       ∙ rw all_registers refl
 
   pub the_times_read : (n : ℕ) (d : Drafted) (more : List ℕ) → inside n d (lines (times_line times ++ more)) ≡ inside (n + 1) (more_times d times) (lines more)

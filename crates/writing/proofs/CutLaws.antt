@@ -1,5 +1,5 @@
 -- A text that is cut short is no circuit.
-use Rattle.std.proofs.Common.{◌≡◌, ℕ, zero, suc, ◌+◌, ◌-◌, ◌*◌, ◌<◌, ◌≤◌, ◌⊎◌, Bool, true, false, cond, List, [], ◌∷◌, ◌++◌, map, codes, length, take, Some, None, Ok, Err, Option, Result, sym, refl, ap, ◌∙◌, inl, inr, append_assoc, suc-add, zero-add, length-append, arith}
+use Rattle.std.proofs.Common.{◌≡◌, ℕ, zero, suc, ◌+◌, ◌-◌, ◌<◌, ◌≤◌, ◌⊎◌, Bool, true, false, cond, List, [], ◌∷◌, ◌++◌, map, codes, length, take, Some, None, Ok, Err, Option, Result, sym, refl, ap, ◌∙◌, inl, inr, append_assoc, suc-add, zero-add, length-append, arith}
 use Rattle.std.specs.Fmt.{decimal}
 use Rattle.std.specs.List.{list_all}
 use Rattle.std.specs.Str.{bytes_eq}
@@ -17,8 +17,8 @@ use Rattle.text.specs.declared.draft.Progress.{Progress}
 use Rattle.text.specs.declared.draft.Progress.TheVariants.{More, Done}
 use Rattle.text.specs.declared.part.Part.{Part}
 use Rattle.text.specs.declared.part.Part.TheVariants.{Gates, Registers, Times as TimesPart}
-use Rattle.text.specs.Meaning.{Drafted, Outcome, meaning, row, said, statement, went, inside, opened, found, first_circuit, fresh, with_gates, with_registers, with_times}
-use Rattle.writing.specs.Written.{line_of, rows, title_of, times_line, register_line, gate_line, end_line, written, nameable}
+use Rattle.text.specs.Meaning.{Drafted, Outcome, meaning, row, said, statement, went, inside, found, first_circuit, fresh, with_gates, with_registers, with_times}
+use Rattle.writing.specs.Written.{line_of, rows, title_of, times_line, register_line, gate_line, end_line, written}
 use Rattle.writing.specs.Again.{CutShort}
 use Rattle.writing.proofs.LineLaws.{whole, Calm, IsWord, AreWords, spaced, bare_calm, calm_line, whole_line}
 use Rattle.writing.proofs.FieldLaws.{words_decimal}
@@ -175,25 +175,25 @@ module _ (gates registers times : List ℕ) (w : Whole gates registers times) wh
   unfolding blank
   gates_refuse =
       rows_refuse (λ k. gate_line (gate_in gates k)) (gate_count gates)
-        (λ k h. let g = gate_in gates k in let small = gate_small gates registers times w k in let table : g.table < 16 = omega (arith, (w.placed k h).2) in
-          line_refuses 103 refl (λ v e. not_end (bytes_eq v (codes "ate")) Gate (λ f. cc) e) (codes "ate") (the_words g small table) gate_word (gate_words g small table)
-            (λ d. more_gates d (gate_numbers g)) (gate_read g small table))
-        (gate_count gates) (omega arith)
+      (λ k h. let g = gate_in gates k in let small = gate_small gates registers times w k in let table : g.table < 16 = omega (arith, (w.placed k h).2) in
+      line_refuses 103 refl (λ v e. not_end (bytes_eq v (codes "ate")) Gate (λ f. cc) e) (codes "ate") (the_words g small table) gate_word (gate_words g small table)
+      (λ d. more_gates d (gate_numbers g)) (gate_read g small table))
+      (gate_count gates) (omega arith)
 
   registers_refuse : (more : List ℕ) → Refuses more → Refuses (rows (λ r. register_line (register_in registers r)) (register_count registers) ++ more)
   unfolding blank
   registers_refuse =
       rows_refuse (λ r. register_line (register_in registers r)) (register_count registers)
-        (λ r h. let small = register_small gates registers times w r in let ns = register_numbers (register_in registers r) in
-          line_refuses 114 refl (λ v e. not_end (bytes_eq v (codes "egister")) Register (λ f. cc) e) (codes "egister") (map decimal ns) register_word (words_decimal ns small)
-            (λ d. more_registers d ns) (λ n d more. register_read n d (register_in registers r) more small))
-        (register_count registers) (omega arith)
+      (λ r h. let small = register_small gates registers times w r in let ns = register_numbers (register_in registers r) in
+      line_refuses 114 refl (λ v e. not_end (bytes_eq v (codes "egister")) Register (λ f. cc) e) (codes "egister") (map decimal ns) register_word (words_decimal ns small)
+      (λ d. more_registers d ns) (λ n d more. register_read n d (register_in registers r) more small))
+      (register_count registers) (omega arith)
 
   times_refuse : (more : List ℕ) → Refuses more → Refuses (times_line times ++ more)
   unfolding blank
   times_refuse =
       line_refuses 116 refl (λ v e. not_end (bytes_eq v (codes "imes")) Times (λ f. cc) e) (codes "imes") (map decimal (time_numbers times)) times_word
-        (words_decimal (time_numbers times) (times_small gates registers times w)) (λ d. more_times d times) (the_times_read gates registers times w)
+      (words_decimal (time_numbers times) (times_small gates registers times w)) (λ d. more_times d times) (the_times_read gates registers times w)
 
 pub cut_short : CutShort
 cut_short name gates registers times m n named w short x e = none_is (first_circuit n (lines (take m (written name gates registers times)))) none x e

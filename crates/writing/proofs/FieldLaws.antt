@@ -1,14 +1,14 @@
 -- Laws of written fields: each number and each table's name is a word, and is read as itself.
-use Rattle.std.proofs.Common.{◌≡◌, ℕ, zero, suc, ◌+◌, ◌^◌, ◌<◌, ◌≤◌, Bool, true, false, cond, ◌&&◌, eqb, List, [], ◌∷◌, length, map, get_or, Some, Ok, Err, Option, Result, sym, refl, ap, ◌∙◌, arith}
+use Rattle.std.proofs.Common.{◌≡◌, ℕ, ◌+◌, ◌^◌, ◌<◌, Bool, true, false, eqb, List, [], ◌∷◌, length, map, Some, Ok, Err, Option, Result, refl, ap, arith}
 use Rattle.std.specs.Fmt.{decimal}
 use Rattle.std.specs.Int.{IsInRange}
 use Rattle.std.specs.List.{list_all}
 use Rattle.std.specs.Str.{all_ascii_digits}
-use Rattle.std.proofs.lemmas.Bool.{and_parts, ne_eqb, lt-ltb, eqb-true}
+use Rattle.std.proofs.lemmas.Bool.{ne_eqb, lt-ltb, eqb-true}
 use Rattle.std.proofs.lemmas.Fmt.{digits_decimal, digits_value-decimal, decimal_nonempty}
 use Rattle.std.proofs.lemmas.Str.Parse.{tells_all_ascii_digits}
-use Rattle.circuit.proofs.Tables.{every, at}
-use Rattle.lines.specs.Words.{blank, ink, inline, plain}
+use Rattle.circuit.proofs.Tables.{at}
+use Rattle.lines.specs.Words.{blank}
 use Rattle.lines.specs.Numbers.{number}
 use Rattle.lines.proofs.NumberLaws.{own}
 use Rattle.fields.specs.Fields.{name_of, named, field, fields}

@@ -1,10 +1,10 @@
 -- Laws of a line of words: it is read as that line, and its words are read as those words.
-use Rattle.std.proofs.Common.{◌≡◌, ℕ, suc, ◌+◌, ◌<◌, ◌≤◌, Bool, true, false, not, ◌&&◌, List, [], ◌∷◌, ◌++◌, length, sym, refl, ap, ◌∙◌, inl, inr, append_assoc, one-add, arith}
+use Rattle.std.proofs.Common.{◌≡◌, ℕ, ◌+◌, Bool, true, false, ◌&&◌, List, [], ◌∷◌, ◌++◌, length, sym, refl, ap, ◌∙◌, inl, inr, append_assoc, one-add, arith}
 use Rattle.std.specs.List.{list_all, prefix_len}
 use Rattle.std.proofs.lemmas.Bool.{and_parts, cases_Bool}
 use Rattle.std.proofs.lemmas.List.{take_all}
-use Rattle.lines.specs.Words.{blank, ink, onto, before, words, inline, lines, plain, bare}
-use Rattle.text.specs.Meaning.{Drafted, Outcome, statement, went, inside, opened, found, first_circuit}
+use Rattle.lines.specs.Words.{blank, ink, onto, words, inline, lines, plain, bare}
+use Rattle.text.specs.Meaning.{Drafted, statement, went, inside, opened, found, first_circuit}
 use Rattle.text.proofs.MeaningLaws.{one_line, one_outside}
 use Rattle.writing.specs.Written.{ended, line_of}
 

@@ -1,8 +1,8 @@
 -- Laws of rows of numbers, as they are taken out of a list one after another.
-use Rattle.std.proofs.Common.{◌≡◌, ℕ, zero, suc, ◌+◌, ◌-◌, ◌*◌, ◌<◌, ◌≤◌, List, [], ◌∷◌, ◌++◌, length, get_or, take, drop, sym, refl, ap, ◌∙◌, length-drop, add-zero, lit<, arith}
+use Rattle.std.proofs.Common.{◌≡◌, ℕ, zero, suc, ◌+◌, ◌*◌, ◌<◌, ◌≤◌, List, [], ◌∷◌, ◌++◌, length, get_or, take, drop, sym, refl, ap, ◌∙◌, length-drop, arith}
 use Rattle.std.proofs.lemmas.List.{get_or-take, get_or-drop, length-take-le}
 use Rattle.std.proofs.Math.Seq.{take-add}
-use Rattle.circuit.specs.Lent.{gate_in, gate_of, register_in, register_of, period, output_early, output_late, setup, hold}
+use Rattle.circuit.specs.Lent.{gate_in, register_in, period, output_early, output_late, setup, hold}
 use Rattle.circuit.specs.declared.gate.Gate.{Gate}
 use Rattle.circuit.specs.declared.register.Register.{Register}
 use Rattle.circuit.proofs.Chunks.{gate_like, register_like}

@@ -1,16 +1,13 @@
 -- Laws of written lines: what each adds to the circuit that is read.
-use Rattle.std.proofs.Common.{◌≡◌, ℕ, zero, suc, ◌+◌, ◌-◌, ◌*◌, ◌^◌, ◌<◌, ◌≤◌, true, false, List, [], ◌∷◌, ◌++◌, map, codes, length, take, get_or, Some, None, Ok, Err, Option, Result, sym, refl, ap, ◌∙◌, append_assoc, arith}
+use Rattle.std.proofs.Common.{◌≡◌, ℕ, zero, suc, ◌+◌, ◌*◌, ◌<◌, ◌≤◌, false, List, [], ◌∷◌, ◌++◌, map, codes, take, Some, None, Ok, refl, ap, ◌∙◌, append_assoc, arith}
 use Rattle.std.specs.Fmt.{decimal}
-use Rattle.std.specs.List.{list_all}
 use Rattle.circuit.specs.declared.gate.Gate.{Gate}
 use Rattle.circuit.specs.declared.register.Register.{Register}
 use Rattle.lines.specs.Words.{blank, lines}
-use Rattle.fields.specs.Fields.{name_of, field, fields, may_be_table}
-use Rattle.text.specs.declared.draft.Progress.{Progress}
-use Rattle.text.specs.declared.draft.Progress.TheVariants.{More, Done}
-use Rattle.text.specs.Meaning.{Drafted, Outcome, statement, went, inside, first_circuit, with_gates, with_registers, with_times}
-use Rattle.writing.specs.Written.{line_of, rows, times_line, register_line, gate_line, end_line}
-use Rattle.writing.proofs.LineLaws.{IsWord, AreWords, line_inside, line_outside}
+use Rattle.fields.specs.Fields.{name_of, fields}
+use Rattle.text.specs.Meaning.{Drafted, statement, inside, with_gates, with_registers, with_times}
+use Rattle.writing.specs.Written.{rows, times_line, register_line, gate_line, end_line}
+use Rattle.writing.proofs.LineLaws.{IsWord, AreWords, line_inside}
 use Rattle.writing.proofs.FieldLaws.{AreSmall, word_decimal, words_decimal, field_decimal, fields_decimal, word_name, field_name}
 use Rattle.writing.proofs.NumberLaws.{gate_numbers, register_numbers, time_numbers}
 

@@ -1,5 +1,5 @@
 -- The text of a circuit, as it is written.
-use Rattle.std.specs.Prelude.{◌≡◌, ℕ, zero, suc, Bool, true, false, ◌&&◌, ◌⊎◌, List, [], ◌∷◌, ◌++◌, map, codes, Option, Result, String, MatchOption, MatchResult}
+use Rattle.std.specs.Prelude.{◌≡◌, ℕ, zero, suc, Bool, true, false, ◌&&◌, List, [], ◌∷◌, ◌++◌, map, codes, Option, Result, String, MatchOption, MatchResult}
 use Rattle.std.specs.Borrow.{Bor}
 use Rattle.std.specs.Fmt.{decimal}
 use Rattle.std.specs.List.{list_all}
@@ -68,9 +68,11 @@ nameable b = printable b && plain b
 abbrev pub IsTitled : (name : List ℕ) → Option (Bor (List ℕ)) → Type 0
 IsTitled name r = MatchOption r (list_all nameable name ≡ false) (λ s. (list_all nameable name ≡ true) × (s.now ≡ name))
 
+-- why a circuit is not written under a name
+abbrev pub NotWritten : (name : List ℕ) → Unwritten → Type 0
+NotWritten name Name = list_all nameable name ≡ false
+NotWritten name Memory = list_all nameable name ≡ true
+
 -- the answer r to a circuit that is to be written under a name
 abbrev pub IsWritten : (name : List ℕ) → Circuit → {Z : Type 0} → Result (String Z) Unwritten → Type 0
-IsWritten name c r =
-    MatchResult r
-    (λ text. (list_all nameable name ≡ true) × (string_bytes text ≡ of c (written name)))
-    (λ e. (e ≡ Memory) ⊎ ((e ≡ Name) × (list_all nameable name ≡ false)))
+IsWritten name c r = MatchResult r (λ text. (list_all nameable name ≡ true) × (string_bytes text ≡ of c (written name))) (NotWritten name)
