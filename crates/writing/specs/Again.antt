@@ -34,3 +34,8 @@ abbrev pub CutShort : Type 0
 CutShort =
     (name gates registers times : List ℕ) (m n : ℕ) → list_all nameable name ≡ true → Whole gates registers times → m + 1 < length (written name gates registers times)
     → (x : Drafted × ℕ × List (List ℕ)) → first_circuit n (lines (take m (written name gates registers times))) ≡ Ok (Some x) → ⊥
+
+-- NO OTHER NAME IS READ: of any text, a circuit that is read has a name under which it can be written
+abbrev pub NamesAreNameable : Type 0
+NamesAreNameable =
+    (n m : ℕ) (ls rest : List (List ℕ)) (d : Drafted) → first_circuit n ls ≡ Ok (Some (d, m, rest)) → list_all nameable d.name ≡ true

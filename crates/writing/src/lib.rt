@@ -7,7 +7,7 @@ ghost use Rattle.std.specs.String.{string_bytes};
 ghost use Rattle.circuit.specs.Checked.{of, gates_of, registers_of};
 ghost use Rattle.circuit.specs.Lent.{gate_in, register_in};
 ghost use Rattle.writing.specs.declared.Unwritten.TheVariants.{Memory};
-ghost use Rattle.writing.specs.Again.{IsReadAgain, WrittenIsRead, CutShort};
+ghost use Rattle.writing.specs.Again.{IsReadAgain, WrittenIsRead, NamesAreNameable, CutShort};
 ghost use Rattle.writing.specs.Written.{line_of, rows, title_of, times_line, register_line, gate_line, written, nameable, IsTitled, IsWritten};
 
 use circuit::{Circuit, Gate, Register};
@@ -147,6 +147,13 @@ pub fn write(heap: Global, name: &[u8], circuit: Circuit<'_>) -> Result<String, 
 // What is written is read again.
 pub fn written_is_read() -> u8
     ensures { WrittenIsRead }
+{
+    0
+}
+
+// A circuit that was read can be written under its name.
+pub fn names_are_nameable() -> u8
+    ensures { NamesAreNameable }
 {
     0
 }
