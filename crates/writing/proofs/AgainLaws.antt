@@ -11,12 +11,12 @@ use Rattle.circuit.proofs.Known.{whole_of}
 use Rattle.circuit.proofs.Joined.{small_gates, small_registers, small_times}
 use Rattle.lines.specs.Words.{blank, plain, lines}
 use Rattle.text.specs.Meaning.{Drafted, inside, first_circuit, fresh, printable, title}
-use Rattle.writing.specs.Written.{line_of, rows, title_of, times_line, register_line, gate_line, end_line, written, nameable}
+use Rattle.writing.specs.Written.{time_numbers, register_numbers, line_of, rows, title_of, times_line, register_line, gate_line, end_line, written, nameable}
 use Rattle.writing.specs.Again.{read_again, WrittenIsRead, IsReadAgain}
 use Rattle.writing.proofs.LineLaws.{dark, IsWord, AreWords, line_outside}
 use Rattle.writing.proofs.NameLaws.{printed}
 use Rattle.writing.proofs.FieldLaws.{AreSmall}
-use Rattle.writing.proofs.NumberLaws.{gate_numbers, register_numbers, time_numbers, next_gate, next_register, times_listed}
+use Rattle.writing.proofs.NumberLaws.{gate_numbers, next_gate, next_register, times_listed}
 use Rattle.writing.proofs.RowLaws.{more_gates, more_registers, more_times, times_read, register_read, gate_read, end_read, rows_read}
 
 -- five parts before more

@@ -18,12 +18,12 @@ use Rattle.text.specs.declared.draft.Progress.TheVariants.{More, Done}
 use Rattle.text.specs.declared.part.Part.{Part}
 use Rattle.text.specs.declared.part.Part.TheVariants.{Gates, Registers, Times as TimesPart}
 use Rattle.text.specs.Meaning.{Drafted, Outcome, meaning, row, said, statement, went, inside, found, first_circuit, fresh, with_gates, with_registers, with_times}
-use Rattle.writing.specs.Written.{line_of, rows, title_of, times_line, register_line, gate_line, end_line, written}
+use Rattle.writing.specs.Written.{time_numbers, register_numbers, gate_words, line_of, rows, title_of, times_line, register_line, gate_line, end_line, written}
 use Rattle.writing.specs.Again.{CutShort}
 use Rattle.writing.proofs.LineLaws.{whole, Calm, IsWord, AreWords, spaced, bare_calm, calm_line, whole_line}
 use Rattle.writing.proofs.FieldLaws.{words_decimal}
-use Rattle.writing.proofs.NumberLaws.{gate_numbers, register_numbers, time_numbers}
-use Rattle.writing.proofs.RowLaws.{more_gates, more_registers, more_times, gate_word, register_word, times_word, the_words, gate_words, gate_read, register_read}
+use Rattle.writing.proofs.NumberLaws.{gate_numbers}
+use Rattle.writing.proofs.RowLaws.{more_gates, more_registers, more_times, gate_word, register_word, times_word, words_of_gate, gate_read, register_read}
 use Rattle.writing.proofs.AgainLaws.{circuit_word, title_words, begin_read, gate_small, register_small, times_small, the_times_read}
 
 -- no circuit
@@ -176,7 +176,7 @@ module _ (gates registers times : List ℕ) (w : Whole gates registers times) wh
   gates_refuse =
       rows_refuse (λ k. gate_line (gate_in gates k)) (gate_count gates)
       (λ k h. let g = gate_in gates k in let small = gate_small gates registers times w k in let table : g.table < 16 = omega (arith, (w.placed k h).2) in
-      line_refuses 103 refl (λ v e. not_end (bytes_eq v (codes "ate")) Gate (λ f. cc) e) (codes "ate") (the_words g small table) gate_word (gate_words g small table)
+      line_refuses 103 refl (λ v e. not_end (bytes_eq v (codes "ate")) Gate (λ f. cc) e) (codes "ate") (gate_words g) gate_word (words_of_gate g small table)
       (λ d. more_gates d (gate_numbers g)) (gate_read g small table))
       (gate_count gates) (omega arith)
 

@@ -1,8 +1,8 @@
 -- A name that is read could be written.
-use Rattle.std.proofs.Common.{◌≡◌, ℕ, zero, suc, ◌+◌, Bool, true, false, cond, ◌&&◌, codes, List, [], ◌∷◌, take, Some, None, Ok, Err, Option, Result, sym, refl, ap, ◌∙◌, inl, inr, one-add}
-use Rattle.std.specs.List.{list_all, prefix_len}
+use Rattle.std.proofs.Common.{◌≡◌, ℕ, ◌+◌, true, codes, List, [], ◌∷◌, Some, None, Ok, Err, Option, Result, refl, inl, inr, one-add}
+use Rattle.std.specs.List.{list_all}
 use Rattle.std.specs.Str.{bytes_eq}
-use Rattle.std.proofs.lemmas.Bool.{and_parts, and_from, cases_Bool}
+use Rattle.std.proofs.lemmas.Bool.{and_parts, cases_Bool}
 use Rattle.lines.specs.Words.{blank, onto, before, words, plain, bare}
 use Rattle.fields.specs.Fields.{fields}
 use Rattle.fields.specs.declared.fault.Expected.{Expected}
@@ -13,7 +13,7 @@ use Rattle.text.specs.declared.draft.Progress.{Progress}
 use Rattle.text.specs.declared.draft.Progress.TheVariants.{More, Done}
 use Rattle.text.specs.declared.part.Part.{Part}
 use Rattle.text.specs.declared.part.Part.TheVariants.{Gates, Registers, Times as TimesPart}
-use Rattle.text.specs.Meaning.{Drafted, Outcome, meaning, row, said, ending, statement, went, inside, printable, title, entitled, opened, found, first_circuit, fresh, with_gates, with_registers, with_times}
+use Rattle.text.specs.Meaning.{Drafted, Outcome, meaning, row, said, statement, went, inside, printable, title, entitled, opened, found, first_circuit, with_gates, with_registers, with_times}
 use Rattle.writing.specs.Written.{nameable}
 use Rattle.writing.specs.Again.{NamesAreNameable}
 

@@ -2,20 +2,14 @@
 use Rattle.std.proofs.Common.{◌≡◌, ℕ, zero, suc, ◌+◌, ◌*◌, ◌<◌, ◌≤◌, List, [], ◌∷◌, ◌++◌, length, get_or, take, drop, sym, refl, ap, ◌∙◌, length-drop, arith}
 use Rattle.std.proofs.lemmas.List.{get_or-take, get_or-drop, length-take-le}
 use Rattle.std.proofs.Math.Seq.{take-add}
-use Rattle.circuit.specs.Lent.{gate_in, register_in, period, output_early, output_late, setup, hold}
+use Rattle.circuit.specs.Lent.{gate_in, register_in}
 use Rattle.circuit.specs.declared.gate.Gate.{Gate}
-use Rattle.circuit.specs.declared.register.Register.{Register}
+use Rattle.writing.specs.Written.{time_numbers, register_numbers}
 use Rattle.circuit.proofs.Chunks.{gate_like, register_like}
 
--- the numbers of a gate, of a register, and of a circuit's times
+-- the numbers of a gate
 abbrev pub gate_numbers : Gate → List ℕ
 gate_numbers g = g.one ∷ g.two ∷ g.table ∷ g.least_one ∷ g.greatest_one ∷ g.least_two ∷ g.greatest_two ∷ []
-
-abbrev pub register_numbers : Register → List ℕ
-register_numbers r = r.signal ∷ r.early ∷ r.late ∷ []
-
-abbrev pub time_numbers : List ℕ → List ℕ
-time_numbers times = period times ∷ output_early times ∷ output_late times ∷ setup times ∷ hold times ∷ []
 
 -- a list by its places
 abbrev listed : (ℕ → ℕ) → ℕ → List ℕ

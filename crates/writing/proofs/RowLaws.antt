@@ -4,12 +4,12 @@ use Rattle.std.specs.Fmt.{decimal}
 use Rattle.circuit.specs.declared.gate.Gate.{Gate}
 use Rattle.circuit.specs.declared.register.Register.{Register}
 use Rattle.lines.specs.Words.{blank, lines}
-use Rattle.fields.specs.Fields.{name_of, fields}
+use Rattle.fields.specs.Fields.{fields}
 use Rattle.text.specs.Meaning.{Drafted, statement, inside, with_gates, with_registers, with_times}
-use Rattle.writing.specs.Written.{rows, times_line, register_line, gate_line, end_line}
+use Rattle.writing.specs.Written.{time_numbers, register_numbers, gate_words, rows, times_line, register_line, gate_line, end_line}
 use Rattle.writing.proofs.LineLaws.{IsWord, AreWords, line_inside}
 use Rattle.writing.proofs.FieldLaws.{AreSmall, word_decimal, words_decimal, field_decimal, fields_decimal, word_name, field_name}
-use Rattle.writing.proofs.NumberLaws.{gate_numbers, register_numbers, time_numbers}
+use Rattle.writing.proofs.NumberLaws.{gate_numbers}
 
 -- a circuit as it is read, with more numbers
 abbrev pub more_gates : Drafted → List ℕ → Drafted
@@ -50,19 +50,16 @@ register_read n d r more small =
     ∙ rw (fields_decimal None 0 (register_numbers r) small) refl
 
 module _ (g : Gate) (small : AreSmall (gate_numbers g)) (table : g.table < 16) where
-  abbrev pub the_words : List (List ℕ)
-  the_words = decimal g.one ∷ decimal g.two ∷ name_of g.table ∷ map decimal (g.least_one ∷ g.greatest_one ∷ g.least_two ∷ g.greatest_two ∷ [])
+  pub words_of_gate : AreWords (gate_words g)
+  words_of_gate = rw (word_decimal g.one small.0, word_decimal g.two small.1.0, word_name g.table table, words_decimal (g.least_one ∷ g.greatest_one ∷ g.least_two ∷ g.greatest_two ∷ []) small.1.1.1) refl
 
-  pub gate_words : AreWords the_words
-  gate_words = rw (word_decimal g.one small.0, word_decimal g.two small.1.0, word_name g.table table, words_decimal (g.least_one ∷ g.greatest_one ∷ g.least_two ∷ g.greatest_two ∷ []) small.1.1.1) refl
-
-  gate_fields : fields (Some 2) 0 7 the_words ≡ Ok (Some (gate_numbers g))
+  gate_fields : fields (Some 2) 0 7 (gate_words g) ≡ Ok (Some (gate_numbers g))
   unfolding fields
   gate_fields = rw (field_decimal false g.one small.0, field_decimal false g.two small.1.0, field_name g.table table, fields_decimal (Some 2) 3 (g.least_one ∷ g.greatest_one ∷ g.least_two ∷ g.greatest_two ∷ []) small.1.1.1) refl
 
   pub gate_read : (n : ℕ) (d : Drafted) (more : List ℕ) → inside n d (lines (gate_line g ++ more)) ≡ inside (n + 1) (more_gates d (gate_numbers g)) (lines more)
   unfolding statement
-  gate_read n d more = line_inside (codes "gate") the_words gate_word gate_words n d more ∙ rw gate_fields refl
+  gate_read n d more = line_inside (codes "gate") (gate_words g) gate_word words_of_gate n d more ∙ rw gate_fields refl
 
 pub end_read : (n : ℕ) (d : Drafted) (more : List ℕ) → inside n d (lines (end_line ++ more)) ≡ Ok (Some (d, n + 1, lines more))
 unfolding statement

@@ -34,18 +34,25 @@ abbrev pub title_of : List ℕ → List (List ℕ)
 title_of [] = []
 title_of (b ∷ bs) = (b ∷ bs) ∷ []
 
--- the five times
+-- the five times, and the numbers of a register
+abbrev pub time_numbers : List ℕ → List ℕ
+time_numbers times = period times ∷ output_early times ∷ output_late times ∷ setup times ∷ hold times ∷ []
+
+abbrev pub register_numbers : Register → List ℕ
+register_numbers r = r.signal ∷ r.early ∷ r.late ∷ []
+
+-- the seven words of a gate: the table is written by its name
+abbrev pub gate_words : Gate → List (List ℕ)
+gate_words g = decimal g.one ∷ decimal g.two ∷ name_of g.table ∷ map decimal (g.least_one ∷ g.greatest_one ∷ g.least_two ∷ g.greatest_two ∷ [])
+
 abbrev pub times_line : List ℕ → List ℕ
-times_line times = line_of (codes "times") (map decimal (period times ∷ output_early times ∷ output_late times ∷ setup times ∷ hold times ∷ []))
+times_line times = line_of (codes "times") (map decimal (time_numbers times))
 
--- a register's three numbers
 abbrev pub register_line : Register → List ℕ
-register_line r = line_of (codes "register") (map decimal (r.signal ∷ r.early ∷ r.late ∷ []))
+register_line r = line_of (codes "register") (map decimal (register_numbers r))
 
--- a gate's seven numbers, the table by its name
 abbrev pub gate_line : Gate → List ℕ
-gate_line g =
-    line_of (codes "gate") (decimal g.one ∷ decimal g.two ∷ name_of g.table ∷ map decimal (g.least_one ∷ g.greatest_one ∷ g.least_two ∷ g.greatest_two ∷ []))
+gate_line g = line_of (codes "gate") (gate_words g)
 
 -- the line that ends a circuit
 abbrev pub end_line : List ℕ
