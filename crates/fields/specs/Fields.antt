@@ -1,5 +1,5 @@
 -- The fields of a line: numbers, and a table by its name.
-use Rattle.std.specs.Prelude.{ℕ, zero, suc, ◌+◌, Bool, cond, List, [], ◌∷◌, map, position, Some, None, Ok, Err, Option, Result, ◌==◌}
+use Rattle.std.specs.Prelude.{ℕ, zero, suc, ◌+◌, Bool, false, cond, List, [], ◌∷◌, map, position, Some, None, Ok, Err, Option, Result, ◌==◌, slice_index_or}
 use Rattle.std.specs.Option.{option_eq}
 use Rattle.std.specs.Str.{bytes_eq}
 use Rattle.circuit.specs.Gate.{tables}
@@ -12,6 +12,10 @@ use Rattle.fields.specs.declared.fault.Expected.TheVariants.{Number, Small, Tabl
 -- the table that a word names
 unfoldable pub named : List ℕ → Option ℕ
 named w = position (bytes_eq w) (map (λ t. t.0) tables)
+
+-- the name of a table; empty past the sixteen
+abbrev pub name_of : ℕ → List ℕ
+name_of t = (slice_index_or tables t ([], λ a b. false)).0
 
 abbrev pub or_fault : Option ℕ → Result ℕ Expected
 or_fault (Some t) = Ok t

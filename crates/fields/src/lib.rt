@@ -4,7 +4,7 @@
 ghost use Rattle.std.specs.Prelude.{◌≡◌, ℕ, true, position};
 ghost use Rattle.std.specs.Str.{bytes_eq};
 ghost use Rattle.lines.specs.Words.{words};
-ghost use Rattle.fields.specs.Fields.{named, field, fields, wanted};
+ghost use Rattle.fields.specs.Fields.{named, name_of, field, fields, wanted};
 
 use lines::{Unread, Words};
 
@@ -58,6 +58,13 @@ pub fn table_of(w: &[u8]) -> Option<u32>
     ensures { result ≡ named w.now }
 {
     place(w, &NAMES).map(|k| k as u32)
+}
+
+// The name of a table; empty past the sixteen.
+pub fn name_of(table: u32) -> &'static str
+    ensures { result.now ≡ name_of table }
+{
+    NAMES.get(table as usize).copied().unwrap_or("")
 }
 
 // A table, by its name or its number.

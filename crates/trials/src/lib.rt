@@ -1,5 +1,5 @@
 // Examples that are run: tables, circuits that are looked at, the drawing, arrival times, margins, circuits gone through
-// time, texts of delays.
+// time, texts of delays, circuits that are written.
 #![tactic(auto)]
 
 #[cfg(test)]
@@ -20,3 +20,5 @@ mod slack_trials;
 mod table_trials;
 #[cfg(test)]
 mod watch_trials;
+#[cfg(test)]
+mod writing_trials;

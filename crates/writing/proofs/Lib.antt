@@ -1,0 +1,9 @@
+pub mod AgainLaws
+pub mod CutLaws
+pub mod FieldLaws
+pub mod LineLaws
+pub mod NameLaws
+pub mod NameReadLaws
+pub mod NumberLaws
+pub mod RowLaws
+pub mod TextLaws

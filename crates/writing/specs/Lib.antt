@@ -1,0 +1,2 @@
+pub mod Again
+pub mod Written
