@@ -264,7 +264,7 @@ def compare(rng, folder, counts):
     want, first = printed(run)
     assert got == want and status == (1 if first else 0), (got, want, status, err)
     check_dump(paths[2], run)
-    passed = word(*circuit) == "passed"
+    passed = word(*circuit).startswith("passed")
     assert not (passed and first), "a passed circuit goes wrong"
     counts["passed" if passed else "not passed, not as drawn" if first else "not passed, as drawn"] += 1
 
@@ -317,7 +317,7 @@ def check_weaker():
         circuit = (of("gate"), of("register"), of("times")[0])
         got, status, _ = call(path + ".circuit", path + ".delays")
         assert tool(circuit), name + ": the weaker tool does not let it through"
-        assert word(*circuit) != "passed", name
+        assert not word(*circuit).startswith("passed"), name
         assert status == 1 and "not as drawn" in got[-1], (name, got)
 
 

@@ -1,5 +1,5 @@
 #!/usr/bin/env python3
-"""Compares the words of `pass` with those of an implementation of its own, on random circuits.
+"""Compares the words of `pass`, and the shortest periods, with those of an implementation of its own, on random circuits.
 
     tests/random_words.py [COUNT]      (6000 circuits if not told; needs a built pass: ./muleminute pass --version builds it)"""
 import os
@@ -44,7 +44,22 @@ def word(gates, registers, times):
         if earliest[signal] <= late + hold:
             by = path(gates, n, earliest, signal, 0, lambda b, a: b < a)
             return "too early at %d%s: %d and %d" % (r, by, earliest[signal], late + hold)
-    return "passed"
+    setup_margin = min(period + early - latest[signal] - setup for signal, early, _ in registers)
+    hold_margin = min(earliest[signal] - 1 - late - hold for signal, _, late in registers)
+    return "passed, margin %d and %d" % (setup_margin, hold_margin)
+
+
+def shortest_period(gates, registers, times):
+    """The first period, counted up from 0, with which no input is too late."""
+    period = 0
+    while word(gates, registers, [period] + times[1:]).startswith("too late"):
+        period += 1
+    return period
+
+
+def period_words(circuit):
+    p = shortest_period(*circuit)
+    return "shortest period %d" % p + (", %d.%03d MHz" % divmod(10 ** 9 // p, 1000) if p else "")
 
 
 def some_circuit(rng):
@@ -67,24 +82,34 @@ def text(name, gates, registers, times):
     return "".join(" ".join(map(str, row)) + "\n" for row in rows)
 
 
+def differ(circuits, expected, *options):
+    """Whether what is printed of the circuits, which are c0, c1 and so on, is not as expected; this is told."""
+    with tempfile.NamedTemporaryFile("w", suffix=".circuit") as f:
+        f.write("".join(text("c%d" % i, *c) for i, c in enumerate(circuits)))
+        f.flush()
+        answers = subprocess.run([PASS, *options, f.name], capture_output=True, text=True).stdout.splitlines()
+    for got, want in zip(answers, expected):
+        if got != want:
+            print("got  %s\nwant %s" % (got, want))
+            return True
+    if len(answers) != len(circuits):
+        print("%d answers to %d circuits" % (len(answers), len(circuits)))
+        return True
+    return False
+
+
 def main():
     count = int(sys.argv[1]) if len(sys.argv) > 1 else 6000
     rng = random.Random(5)
     circuits = [some_circuit(rng) for _ in range(count)]
     expected = ["c%d: %s" % (i, word(*c)) for i, c in enumerate(circuits)]
-    with tempfile.NamedTemporaryFile("w", suffix=".circuit") as f:
-        f.write("".join(text("c%d" % i, *c) for i, c in enumerate(circuits)))
-        f.flush()
-        answers = subprocess.run([PASS, f.name], capture_output=True, text=True).stdout.splitlines()
-    for got, want in zip(answers, expected):
-        if got != want:
-            print("got  %s\nwant %s" % (got, want))
-            return 1
-    if len(answers) != count:
-        print("%d answers to %d circuits" % (len(answers), count))
+    if differ(circuits, expected):
+        return 1
+    few = circuits[:count // 10]
+    if differ(few, ["c%d: %s" % (i, period_words(c)) for i, c in enumerate(few)], "--period"):
         return 1
     kinds = [sum(k in w for w in expected) for k in (": passed", ": too late", ": too early")]
-    print("%d circuits, all words the same: %d passed, %d too late, %d too early" % ((count,) + tuple(kinds)))
+    print("%d circuits, all words the same: %d passed, %d too late, %d too early; %d shortest periods the same" % ((count,) + tuple(kinds) + (len(few),)))
     return 0
 
 

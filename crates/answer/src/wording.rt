@@ -1,6 +1,7 @@
 // The words on a circuit.
 use circuit::Refusal;
 use signoff::Miss;
+use slack::Smallest;
 use std::fmt;
 use std::fmt::Write;
 use text::Part;
@@ -68,5 +69,38 @@ impl fmt::Display for Missed<'_> {
             write!(f, "{before}{gate}")?;
         }
         write!(f, ": {} and {}", self.miss.arrival, self.miss.limit)
+    }
+}
+
+// The smallest setup margin and the smallest hold margin.
+#[derive(Clone, Copy)]
+pub(crate) struct Margins(pub(crate) Smallest);
+
+impl fmt::Display for Margins {
+    fn fmt<W: fmt::Write>(&self, f: &mut fmt::Formatter<W>) -> fmt::Result {
+        write!(
+            f,
+            "margin {} and {}",
+            self.0.setup.margin, self.0.hold.margin
+        )
+    }
+}
+
+// A circuit's shortest period, and the frequency of it in MHz.
+#[derive(Clone, Copy)]
+pub(crate) struct Shortest(pub(crate) u64);
+
+impl fmt::Display for Shortest {
+    fn fmt<W: fmt::Write>(&self, f: &mut fmt::Formatter<W>) -> fmt::Result {
+        write!(f, "shortest period {}", self.0)?;
+        match slack::frequency(self.0) {
+            Some(thousandths) => write!(
+                f,
+                ", {}.{:03} MHz",
+                thousandths / 1000,
+                thousandths % 1000
+            ),
+            None => Ok(()),
+        }
     }
 }

@@ -1,22 +1,24 @@
 // pass: passes the circuits of files, or names what stands in their way.
 #![tactic(auto)]
 
-use answer::Said;
-use command::Command;
+use command::{Command, Form};
 use fields::Fault;
+use std::alloc::Global;
 use std::process::ExitCode;
 use std::rt::Files;
 use std::{fmt, io};
+use text::Draft;
 
 mod command;
 
-const USAGE: &str = "usage: pass [--exit-zero] [--help] [--version] FILE...";
+const USAGE: &str = "usage: pass [--period] [--exit-zero] [--help] [--version] FILE...";
 
 const HELP: &str =
     "Passes the circuits of each FILE, in order, or says what stands in the way: a line for each.
 
-  passed                      whatever delays and clocks do within their bounds, the
-                              registers hold what the drawing says, in every cycle
+  passed, margin A and B      whatever delays and clocks do within their bounds, the
+                              registers hold what the drawing says, in every cycle; the
+                              setup time could be longer by A, the hold time by B
   too late at R by G, G: A and B
                               the input of register R comes too late, by the path through
                               these gates: latest time and setup A, period and early time B
@@ -27,13 +29,15 @@ const HELP: &str =
                               the numbers are no circuit
 
   FILE          a text of circuits; - is standard input
+  --period      print for each circuit the shortest period with which no input comes too
+                late, and the frequency of it: shortest period 17, 58823.529 MHz
   --exit-zero   end with status 0 whatever is said of the circuits
   --help        print this and end
   --version     print the version and end
 
-Status 0 if every circuit is passed; else 1. A file that cannot be read, that has a fault
-in its text, or that has no circuit is an error: it is told on standard error, and the
-status is 1 in any case.";
+Status 0 if every circuit is passed, or with --period if none is turned away; else 1. A file
+that cannot be read, that has a fault in its text, or that has no circuit is an error: it is
+told on standard error, and the status is 1 in any case.";
 
 const VERSION: &str = "pass (muleminute) 0.1.0";
 
@@ -43,17 +47,17 @@ const COLLECTED: usize = 60_000;
 // What was found, from best to worst.
 #[derive(Clone, Copy, PartialEq, Eq, PartialOrd, Ord)]
 enum Outcome {
-    // Every circuit was passed.
+    // Every circuit was passed; or had a shortest period, where this is asked for.
     Passed,
-    // A circuit was not passed.
+    // A circuit was not.
     NotPassed,
     // A file could not be read, has a fault, or has no circuit.
     Unsound,
 }
 
 impl Outcome {
-    fn of(said: &Said) -> Outcome {
-        if said.passed {
+    fn of(passed: bool) -> Outcome {
+        if passed {
             Outcome::Passed
         } else {
             Outcome::NotPassed
@@ -95,10 +99,34 @@ fn flush(rt: &impl Print, out: &mut String) -> io::Result<()> {
     Ok(())
 }
 
+// What is told of a circuit that was read from the beginning of a text, with so many lines before that.
+fn tell(
+    out: &mut String,
+    form: Form,
+    heap: Global,
+    draft: &Draft,
+    text: &[u8],
+    before: usize,
+) -> anyhow::Result<Outcome> {
+    match form {
+        Form::Words => {
+            let said = answer::answer(heap, draft, text, before)?;
+            out.push_str(&said.line)?;
+            Ok(Outcome::of(said.margins.is_some()))
+        }
+        Form::Period => {
+            let paced = answer::period(heap, draft, text, before)?;
+            out.push_str(&paced.line)?;
+            Ok(Outcome::of(paced.period.is_some()))
+        }
+    }
+}
+
 // The circuits of one text. What is collected is written out on both ways out of the loop, so a fault breaks out of it
 // with a value, without `?`. The reader counts lines from 1 in what is handed to it, so those before are added here.
 fn pass_text(
     rt: &(impl Print + AllocGlobal),
+    form: Form,
     bytes: &[u8],
 ) -> anyhow::Result<Result<Outcome, Flaw>> {
     let heap = rt.alloc();
@@ -115,9 +143,8 @@ fn pass_text(
                 break Err(Flaw::Fault(Fault { line, expected }));
             }
         };
-        let said = answer::answer(heap, &read.draft, rest, before)?;
-        out.push_str(said.line.as_str())?;
-        worst = worst.max(Some(Outcome::of(&said)));
+        let outcome = tell(&mut out, form, heap, &read.draft, rest, before)?;
+        worst = worst.max(Some(outcome));
         before = before.saturating_add(read.rest.number).saturating_sub(1);
         rest = read.rest.text;
         if out.len() > COLLECTED {
@@ -130,10 +157,11 @@ fn pass_text(
 
 fn pass_file(
     rt: &(impl Files + Input + Print + Eprint + AllocGlobal),
+    form: Form,
     path: &str,
 ) -> anyhow::Result<Outcome> {
     let outcome = match input::read_all(rt, path) {
-        Ok(bytes) => pass_text(rt, &bytes)?,
+        Ok(bytes) => pass_text(rt, form, &bytes)?,
         Err(e) => Err(Flaw::Unreadable(e)),
     };
     match outcome {
@@ -159,10 +187,14 @@ fn run(rt: &HostRuntime) -> anyhow::Result<ExitCode> {
             eprintln!(rt; "{USAGE}")?;
             Ok(ExitCode::FAILURE)
         }
-        Command::Pass { files, exit_zero } => {
+        Command::Pass {
+            files,
+            form,
+            exit_zero,
+        } => {
             let mut worst = Outcome::Passed;
             for path in &files {
-                worst = worst.max(pass_file(rt, path.as_str())?);
+                worst = worst.max(pass_file(rt, form, path.as_str())?);
             }
             Ok(worst.status(exit_zero))
         }
