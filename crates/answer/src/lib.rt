@@ -7,7 +7,7 @@ ghost use Rattle.text.specs.Meaning.{drafted};
 ghost use Rattle.answer.specs.Said.{machine_of, PassedIf, PeriodIf, Taken, TurnedAwayIf};
 
 use circuit::{Circuit, MOST_GATES, Numbers, Refusal};
-use reason::{Detail, Reason};
+use reason::Detail;
 use signoff::Verdict;
 use slack::Smallest;
 use std::alloc::Global;
@@ -15,7 +15,7 @@ use std::fmt;
 use std::fmt::Write;
 use text::Draft;
 use wording::{Margins, Missed, Shortest};
-pub use wording::{Title, TurnedAway};
+pub use wording::{Refused, Title, TurnedAway, Why};
 
 mod wording;
 
@@ -73,35 +73,25 @@ impl Source<'_> {
         line.unwrap_or(self.draft.line).saturating_add(self.before)
     }
 
-    // A refusal in detail and with its line.
-    fn put_reason(self, out: &mut String, reason: Reason) -> fmt::Result {
-        let line = self.line_of(reason.detail);
-        let refused = TurnedAway {
-            refusal: reason.refusal,
-            why: reason.detail,
-        };
-        writeln!(out, "{refused} (line {line})")?;
-        Ok(())
-    }
-
-    // The line on which a circuit is turned away, put behind its name; false where its numbers are one.
-    fn put_refusal(self, out: &mut String) -> Result<bool, fmt::Error>
-        ensures { IfOk result (λ refused. TurnedAwayIf (drafted self.entry.draft.now) refused) }
+    // Why a circuit is turned away, None where its numbers are one.
+    fn refused(self) -> Option<Refused>
+        ensures { TurnedAwayIf (drafted self.entry.draft.now) (is_some result) }
     {
         let draft = self.draft;
         if let Some(miscount) = draft.miscount {
-            let number = miscount.line.saturating_add(self.before);
-            let refused = TurnedAway::miscounted(miscount.part);
-            writeln!(out, "{refused} (line {number})")?;
-            return Ok(true);
+            return Some(Refused {
+                what: TurnedAway::miscounted(miscount.part),
+                line: miscount.line.saturating_add(self.before),
+            });
         }
-        match reason::explain(&draft.gates, &draft.registers, &draft.times) {
-            Some(reason) => {
-                self.put_reason(out, reason)?;
-                Ok(true)
-            }
-            None => Ok(false),
-        }
+        let reason = reason::explain(&draft.gates, &draft.registers, &draft.times)?;
+        Some(Refused {
+            what: TurnedAway {
+                refusal: reason.refusal,
+                why: Why::Detail(reason.detail),
+            },
+            line: self.line_of(reason.detail),
+        })
     }
 
     // The word on a circuit that is not turned away, put behind its name.
@@ -148,13 +138,26 @@ pub fn answer(heap: Global, draft: &Draft, text: &[u8], before: usize) -> Result
         text,
         before,
     };
-    if source.put_refusal(&mut line)? {
+    if let Some(refused) = source.refused() {
+        writeln!(line, "{refused}")?;
         return Ok(Said {
             line,
             margins: None,
         });
     }
     source.judge(line)
+}
+
+// Why a circuit that was read is turned away, None where it is not; the rest is as for `answer`.
+pub fn refused(draft: &Draft, text: &[u8], before: usize) -> Option<Refused>
+    ensures { TurnedAwayIf (drafted draft.now) (is_some result) }
+{
+    Source {
+        draft,
+        text,
+        before,
+    }
+    .refused()
 }
 
 // The line on which a circuit that was read is turned away, None where it is not; the rest is as for `answer`.
@@ -173,8 +176,11 @@ pub fn turned_away(
         text,
         before,
     };
-    let refused = source.put_refusal(&mut line)?;
-    Ok(refused.then_some(line))
+    let Some(refused) = source.refused() else {
+        return Ok(None);
+    };
+    writeln!(line, "{refused}")?;
+    Ok(Some(line))
 }
 
 // What is said of a circuit's shortest period, and of the frequency that it allows; the rest is as for `answer`.
@@ -188,7 +194,8 @@ pub fn period(heap: Global, draft: &Draft, text: &[u8], before: usize) -> Result
         text,
         before,
     };
-    if source.put_refusal(&mut line)? {
+    if let Some(refused) = source.refused() {
+        writeln!(line, "{refused}")?;
         return Ok(Paced { line, period: None });
     }
     let shortest = slack::shortest_period(taken(draft));

@@ -1,5 +1,6 @@
 // The words on a circuit.
 use circuit::Refusal;
+use reason::Detail;
 use signoff::Miss;
 use slack::Smallest;
 use std::fmt;
@@ -29,14 +30,44 @@ pub struct TurnedAway<D> {
     pub why: D,
 }
 
-impl TurnedAway<&'static str> {
+// Why a circuit that was read is turned away: a line has another count of numbers than it should, in words; or what is
+// wrong with the numbers.
+#[derive(Clone, Copy)]
+pub enum Why {
+    Miscount(&'static str),
+    Detail(Detail),
+}
+
+impl fmt::Display for Why {
+    fn fmt<W: fmt::Write>(&self, f: &mut fmt::Formatter<W>) -> fmt::Result {
+        match self {
+            Why::Miscount(words) => f.write_str(words),
+            Why::Detail(detail) => write!(f, "{detail}"),
+        }
+    }
+}
+
+// A refusal of a circuit that was read, and the line that it is about.
+#[derive(Clone, Copy)]
+pub struct Refused {
+    pub what: TurnedAway<Why>,
+    pub line: usize,
+}
+
+impl fmt::Display for Refused {
+    fn fmt<W: fmt::Write>(&self, f: &mut fmt::Formatter<W>) -> fmt::Result {
+        write!(f, "{} (line {})", self.what, self.line)
+    }
+}
+
+impl TurnedAway<Why> {
     // For a line of a part that has another count of numbers than it should.
     pub(crate) fn miscounted(part: Part) -> Self {
-        let why = match part {
+        let why = Why::Miscount(match part {
             Part::Gates => "a gate has 7 numbers",
             Part::Registers => "a register has 3 numbers",
             Part::Times => "there are 5 times",
-        };
+        });
         TurnedAway {
             refusal: part.into(),
             why,

@@ -1,2 +1,3 @@
 pub mod FaultLaws
 pub mod FieldLaws
+pub mod Names

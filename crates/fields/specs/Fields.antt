@@ -1,5 +1,6 @@
 -- The fields of a line: numbers, and a table by its name.
-use Rattle.std.specs.Prelude.{ℕ, zero, suc, ◌+◌, Bool, cond, List, [], ◌∷◌, map, position, Some, None, Ok, Err, Option, Result, ◌==◌}
+use Rattle.std.specs.Prelude.{◌≡◌, ℕ, zero, suc, ◌+◌, ◌<◌, ◌≤◌, length, slice_index_or, MatchOption, Bool, cond, List, [], ◌∷◌, map, position, Some, None, Ok, Err, Option, Result, ◌==◌}
+use Rattle.std.specs.Borrow.{Bor}
 use Rattle.std.specs.Option.{option_eq}
 use Rattle.std.specs.Str.{bytes_eq}
 use Rattle.circuit.specs.Gate.{tables}
@@ -12,6 +13,10 @@ use Rattle.fields.specs.declared.fault.Expected.TheVariants.{Number, Small, Tabl
 -- the table that a word names
 unfoldable pub named : List ℕ → Option ℕ
 named w = position (bytes_eq w) (map (λ t. t.0) tables)
+
+-- the code's answer o is the word at k, or None past the last
+abbrev pub IsAt : List (List ℕ) → ℕ → Option (Bor (List ℕ)) → Type 0
+IsAt ws k o = MatchOption o (length ws ≤ k) (λ w. (k < length ws) × (w.now ≡ slice_index_or ws k []))
 
 abbrev pub or_fault : Option ℕ → Result ℕ Expected
 or_fault (Some t) = Ok t

@@ -1,10 +1,10 @@
 // The fields of a line: numbers, and a table by its name; and what a text should have had where it is at fault.
 #![tactic(auto)]
 
-ghost use Rattle.std.specs.Prelude.{◌≡◌, ℕ, true, position};
+ghost use Rattle.std.specs.Prelude.{◌≡◌, ℕ, ◌≤◌, true, position, map, MatchOption, Some};
 ghost use Rattle.std.specs.Str.{bytes_eq};
 ghost use Rattle.lines.specs.Words.{words};
-ghost use Rattle.fields.specs.Fields.{named, field, fields, wanted};
+ghost use Rattle.fields.specs.Fields.{named, IsAt, field, fields, wanted};
 
 use lines::{Unread, Words};
 
@@ -58,6 +58,20 @@ pub fn table_of(w: &[u8]) -> Option<u32>
     ensures { result ≡ named w.now }
 {
     place(w, &NAMES).map(|k| k as u32)
+}
+
+// The name at a place, None past the last.
+fn name_at(names: &[&'static str], k: usize) -> Option<&'static str>
+    ensures { IsAt (map (λ n. n.now) names.now) k result }
+{
+    names.get(k).copied()
+}
+
+// The name of a table, None past the last.
+pub fn name_of(table: u32) -> Option<&'static str>
+    ensures { MatchOption result (16 ≤ table) (λ name. named name.now ≡ Some table) }
+{
+    name_at(&NAMES, table as usize)
 }
 
 // A table, by its name or its number.

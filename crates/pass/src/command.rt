@@ -20,6 +20,8 @@ pub(crate) enum Command {
 pub(crate) enum Form {
     // Its word.
     Words,
+    // Its word, and paths step by step.
+    Paths,
     // Its shortest period.
     Period,
 }
@@ -28,6 +30,7 @@ impl Form {
     // What an option asks for.
     fn of(option: &str) -> Option<Form> {
         match option {
+            "--paths" => Some(Form::Paths),
             "--period" => Some(Form::Period),
             _ => None,
         }

@@ -1,6 +1,7 @@
 // pass: passes the circuits of files, or names what stands in their way.
 #![tactic(auto)]
 
+use circuit::{Circuit, Numbers};
 use command::{Command, Form};
 use fields::Fault;
 use std::alloc::Global;
@@ -11,7 +12,7 @@ use text::Draft;
 
 mod command;
 
-const USAGE: &str = "usage: pass [--period] [--exit-zero] [--help] [--version] FILE...";
+const USAGE: &str = "usage: pass [--paths | --period] [--exit-zero] [--help] [--version] FILE...";
 
 const HELP: &str =
     "Passes the circuits of each FILE, in order, or says what stands in the way: a line for each.
@@ -29,6 +30,8 @@ const HELP: &str =
                               the numbers are no circuit
 
   FILE          a text of circuits; - is standard input
+  --paths       after the word on a circuit tell, step by step, the path to the register that
+                it names, and those to the registers with the smallest margin of each kind
   --period      print for each circuit the shortest period with which no input comes too
                 late, and the frequency of it: shortest period 17, 58823.529 MHz
   --exit-zero   end with status 0 whatever is said of the circuits
@@ -99,6 +102,19 @@ fn flush(rt: &impl Print, out: &mut String) -> io::Result<()> {
     Ok(())
 }
 
+// The circuit that was read, None where it is turned away.
+fn circuit_of<'a>(draft: &'a Draft, text: &[u8], before: usize) -> Option<Circuit<'a>> {
+    if answer::refused(draft, text, before).is_some() {
+        return None;
+    }
+    Circuit::try_from(Numbers {
+        gates: &draft.gates,
+        registers: &draft.registers,
+        times: &draft.times,
+    })
+    .ok()
+}
+
 // What is told of a circuit that was read from the beginning of a text, with so many lines before that.
 fn tell(
     out: &mut String,
@@ -112,6 +128,14 @@ fn tell(
         Form::Words => {
             let said = answer::answer(heap, draft, text, before)?;
             out.push_str(&said.line)?;
+            Ok(Outcome::of(said.margins.is_some()))
+        }
+        Form::Paths => {
+            let said = answer::answer(heap, draft, text, before)?;
+            out.push_str(&said.line)?;
+            if let Some(circuit) = circuit_of(draft, text, before) {
+                report::put(out, circuit)?;
+            }
             Ok(Outcome::of(said.margins.is_some()))
         }
         Form::Period => {
