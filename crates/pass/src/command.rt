@@ -24,12 +24,15 @@ pub(crate) enum Form {
     Paths,
     // Its shortest period.
     Period,
+    // All that is found, as JSON.
+    Json,
 }
 
 impl Form {
     // What an option asks for.
     fn of(option: &str) -> Option<Form> {
         match option {
+            "--json" => Some(Form::Json),
             "--paths" => Some(Form::Paths),
             "--period" => Some(Form::Period),
             _ => None,

@@ -1,6 +1,8 @@
 // pass: passes the circuits of files, or names what stands in their way.
 #![tactic(auto)]
 
+use answer::Refused;
+use as_json::Place;
 use circuit::{Circuit, Numbers};
 use command::{Command, Form};
 use fields::Fault;
@@ -12,7 +14,8 @@ use text::Draft;
 
 mod command;
 
-const USAGE: &str = "usage: pass [--paths | --period] [--exit-zero] [--help] [--version] FILE...";
+const USAGE: &str =
+    "usage: pass [--json | --paths | --period] [--exit-zero] [--help] [--version] FILE...";
 
 const HELP: &str =
     "Passes the circuits of each FILE, in order, or says what stands in the way: a line for each.
@@ -30,6 +33,8 @@ const HELP: &str =
                               the numbers are no circuit
 
   FILE          a text of circuits; - is standard input
+  --json        print for each circuit an object of JSON on a line of its own, which
+                docs/JSON.md describes
   --paths       after the word on a circuit tell, step by step, the path to the register that
                 it names, and those to the registers with the smallest margin of each kind
   --period      print for each circuit the shortest period with which no input comes too
@@ -102,47 +107,68 @@ fn flush(rt: &impl Print, out: &mut String) -> io::Result<()> {
     Ok(())
 }
 
-// The circuit that was read, None where it is turned away.
-fn circuit_of<'a>(draft: &'a Draft, text: &[u8], before: usize) -> Option<Circuit<'a>> {
-    if answer::refused(draft, text, before).is_some() {
-        return None;
-    }
-    Circuit::try_from(Numbers {
-        gates: &draft.gates,
-        registers: &draft.registers,
-        times: &draft.times,
-    })
-    .ok()
+// A circuit that was read: the name of its file, what it was read from, and the number of lines before that.
+#[derive(Clone, Copy)]
+struct Source<'a> {
+    file: &'a str,
+    draft: &'a Draft,
+    text: &'a [u8],
+    before: usize,
 }
 
-// What is told of a circuit that was read from the beginning of a text, with so many lines before that.
-fn tell(
-    out: &mut String,
-    form: Form,
-    heap: Global,
-    draft: &Draft,
-    text: &[u8],
-    before: usize,
-) -> anyhow::Result<Outcome> {
-    match form {
-        Form::Words => {
-            let said = answer::answer(heap, draft, text, before)?;
-            out.push_str(&said.line)?;
-            Ok(Outcome::of(said.margins.is_some()))
+impl<'a> Source<'a> {
+    fn place(self) -> Place<'a> {
+        Place {
+            file: self.file,
+            name: &self.draft.name,
+            line: self.draft.line.saturating_add(self.before),
         }
-        Form::Paths => {
-            let said = answer::answer(heap, draft, text, before)?;
-            out.push_str(&said.line)?;
-            if let Some(circuit) = circuit_of(draft, text, before) {
-                report::put(out, circuit)?;
-            }
-            Ok(Outcome::of(said.margins.is_some()))
+    }
+
+    // The circuit, or why it is turned away.
+    fn circuit(self) -> Result<Circuit<'a>, Refused> {
+        let draft = self.draft;
+        if let Some(refused) = answer::refused(draft, self.text, self.before) {
+            return Err(refused);
         }
-        Form::Period => {
+        let Ok(circuit) = Circuit::try_from(Numbers {
+            gates: &draft.gates,
+            registers: &draft.registers,
+            times: &draft.times,
+        }) else {
+            unreachable!()
+        };
+        Ok(circuit)
+    }
+
+    // What is told of it, and what was found.
+    fn tell(self, heap: Global, form: Form, out: &mut String) -> anyhow::Result<Outcome> {
+        let Source {
+            draft,
+            text,
+            before,
+            ..
+        } = self;
+        if form == Form::Period {
             let paced = answer::period(heap, draft, text, before)?;
             out.push_str(&paced.line)?;
-            Ok(Outcome::of(paced.period.is_some()))
+            return Ok(Outcome::of(paced.period.is_some()));
         }
+        let said = answer::answer(heap, draft, text, before)?;
+        match (form, self.circuit()) {
+            (Form::Json, Ok(circuit)) => {
+                out.push_str(&as_json::judged(heap, self.place(), circuit)?)?;
+            }
+            (Form::Json, Err(refused)) => {
+                out.push_str(&as_json::turned_away(heap, self.place(), refused)?)?;
+            }
+            (Form::Paths, Ok(circuit)) => {
+                out.push_str(&said.line)?;
+                report::put(out, circuit)?;
+            }
+            _ => out.push_str(&said.line)?,
+        }
+        Ok(Outcome::of(said.margins.is_some()))
     }
 }
 
@@ -151,6 +177,7 @@ fn tell(
 fn pass_text(
     rt: &(impl Print + AllocGlobal),
     form: Form,
+    file: &str,
     bytes: &[u8],
 ) -> anyhow::Result<Result<Outcome, Flaw>> {
     let heap = rt.alloc();
@@ -167,7 +194,13 @@ fn pass_text(
                 break Err(Flaw::Fault(Fault { line, expected }));
             }
         };
-        let outcome = tell(&mut out, form, heap, &read.draft, rest, before)?;
+        let source = Source {
+            file,
+            draft: &read.draft,
+            text: rest,
+            before,
+        };
+        let outcome = source.tell(heap, form, &mut out)?;
         worst = worst.max(Some(outcome));
         before = before.saturating_add(read.rest.number).saturating_sub(1);
         rest = read.rest.text;
@@ -185,7 +218,7 @@ fn pass_file(
     path: &str,
 ) -> anyhow::Result<Outcome> {
     let outcome = match input::read_all(rt, path) {
-        Ok(bytes) => pass_text(rt, form, &bytes)?,
+        Ok(bytes) => pass_text(rt, form, path, &bytes)?,
         Err(e) => Err(Flaw::Unreadable(e)),
     };
     match outcome {
