@@ -1,10 +1,16 @@
 // What is said of a circuit as one line of JSON.
 #![tactic(auto)]
 
+ghost use Rattle.std.specs.Prelude.{◌≤◌, IfOk, IsSome, string_bytes};
+ghost use Rattle.serde_json.specs.Data.{depth};
+ghost use Rattle.serde_json.specs.Read.{read};
+ghost use Rattle.serde_json.specs.View.{view};
+
 use answer::{Refused, TurnedAway, Why};
 use circuit::{Circuit, MOST_GATES};
 use object::Object;
-use serde_json::Value;
+use serde_json::{Value, json};
+use slack::Smallest;
 use std::alloc::{AllocError, Global};
 use verdict::Judged;
 
@@ -28,7 +34,7 @@ impl Place<'_> {
         let mut object = Object::new(heap);
         object.put_text("file", self.file)?;
         if !self.name.is_empty() {
-            object.put("name", Value::String(text_of(heap, self.name)?))?;
+            object.put("name", Value::from(text_of(heap, self.name)?))?;
         }
         object.put("line", Value::from(self.line))?;
         object.put_text("word", word)?;
@@ -45,23 +51,40 @@ fn text_of(heap: Global, name: &[u8]) -> Result<String, AllocError> {
     Ok(text)
 }
 
-// The line on a circuit that is turned away.
-pub fn turned_away(heap: Global, place: Place<'_>, refused: Refused) -> Result<String, AllocError> {
+// A refusal: its number, its place, the reason in words, and the line that it is about.
+fn refusal_of(heap: Global, refused: Refused) -> Result<Value, AllocError>
+    ensures { IfOk result (λ v. depth (view v) ≤ 1) }
+{
+    let TurnedAway { refusal, why } = refused.what;
+    let reason = format!(in heap; "{why}")?;
+    json!(in heap; {
+        "number": refusal.number(),
+        "place": refusal.place(),
+        "reason": reason.as_str(),
+        "line": refused.line
+    })
+}
+
+// The smallest margins.
+fn margin_of(heap: Global, smallest: Smallest) -> Result<Value, AllocError>
+    ensures { IfOk result (λ v. depth (view v) ≤ 1) }
+{
+    json!(in heap; {"setup": smallest.setup.margin, "hold": smallest.hold.margin})
+}
+
+// The line on a circuit that is turned away, without its end: JSON.
+pub fn turned_away(heap: Global, place: Place<'_>, refused: Refused) -> Result<String, AllocError>
+    ensures { IfOk result (λ line. IsSome (read (string_bytes line))) }
+{
     let mut object = place.object(heap, "turned away")?;
-    let mut refusal = Object::new(heap);
-    refusal.put("number", Value::from(refused.what.refusal.number()))?;
-    refusal.put("place", Value::from(refused.what.refusal.place()))?;
-    refusal.put(
-        "reason",
-        Value::String(format!(in heap; "{}", refused.what.why)?),
-    )?;
-    refusal.put("line", Value::from(refused.line))?;
-    object.put("refusal", refusal.value())?;
+    object.put("refusal", refusal_of(heap, refused)?)?;
     object.line()
 }
 
-// The line on a circuit that is not.
-pub fn judged(heap: Global, place: Place<'_>, circuit: Circuit<'_>) -> Result<String, AllocError> {
+// The line on a circuit that is not, without its end: JSON.
+pub fn judged(heap: Global, place: Place<'_>, circuit: Circuit<'_>) -> Result<String, AllocError>
+    ensures { IfOk result (λ line. IsSome (read (string_bytes line))) }
+{
     let mut room = [0; LONGEST_PATH];
     let judged = match Judged::of(circuit, &mut room) {
         Ok(judged) => judged,
@@ -81,10 +104,7 @@ pub fn judged(heap: Global, place: Place<'_>, circuit: Circuit<'_>) -> Result<St
         object.put("limit", Value::from(miss.limit))?;
     }
     let smallest = slack::smallest(circuit);
-    let mut margin = Object::new(heap);
-    margin.put("setup", Value::from(smallest.setup.margin))?;
-    margin.put("hold", Value::from(smallest.hold.margin))?;
-    object.put("margin", margin.value())?;
+    object.put("margin", margin_of(heap, smallest)?)?;
     object.put(
         "shortest_period",
         Value::from(slack::shortest_period(circuit)),

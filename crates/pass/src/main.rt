@@ -6,7 +6,8 @@ use as_json::Place;
 use circuit::{Circuit, Numbers};
 use command::{Command, Form};
 use fields::Fault;
-use std::alloc::Global;
+use std::alloc::{AllocError, Global};
+use std::fmt::Write;
 use std::process::ExitCode;
 use std::rt::Files;
 use std::{fmt, io};
@@ -141,6 +142,14 @@ impl<'a> Source<'a> {
         Ok(circuit)
     }
 
+    // All that is found, as JSON.
+    fn json(self, heap: Global) -> Result<String, AllocError> {
+        match self.circuit() {
+            Ok(circuit) => as_json::judged(heap, self.place(), circuit),
+            Err(refused) => as_json::turned_away(heap, self.place(), refused),
+        }
+    }
+
     // What is told of it, and what was found.
     fn tell(self, heap: Global, form: Form, out: &mut String) -> anyhow::Result<Outcome> {
         let Source {
@@ -155,18 +164,15 @@ impl<'a> Source<'a> {
             return Ok(Outcome::of(paced.period.is_some()));
         }
         let said = answer::answer(heap, draft, text, before)?;
-        match (form, self.circuit()) {
-            (Form::Json, Ok(circuit)) => {
-                out.push_str(&as_json::judged(heap, self.place(), circuit)?)?;
-            }
-            (Form::Json, Err(refused)) => {
-                out.push_str(&as_json::turned_away(heap, self.place(), refused)?)?;
-            }
-            (Form::Paths, Ok(circuit)) => {
-                out.push_str(&said.line)?;
+        if form == Form::Json {
+            writeln!(out, "{}", self.json(heap)?)?;
+        } else {
+            out.push_str(&said.line)?;
+        }
+        if form == Form::Paths {
+            if let Ok(circuit) = self.circuit() {
                 report::put(out, circuit)?;
             }
-            _ => out.push_str(&said.line)?,
         }
         Ok(Outcome::of(said.margins.is_some()))
     }
