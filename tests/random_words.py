@@ -87,9 +87,9 @@ def report(gates, registers, times, late, r):
     clock, output = (registers[source][2], output_late) if late else (registers[source][1], output_early)
     required = period + early - setup if late else last + hold + 1
     if late:
-        lines = ["  register %d, setup: latest time, at most %d = period %d + early %d - setup %d" % (r, required, period, early, setup)]
+        lines = ["  register %d, setup: latest time, at most period %d + early %d - setup %d" % (r, period, early, setup)]
     else:
-        lines = ["  register %d, hold: earliest time, at least %d = late %d + hold %d + 1" % (r, required, last, hold)]
+        lines = ["  register %d, hold: earliest time, at least late %d + hold %d + 1" % (r, last, hold)]
     rows = [("signal", "table", "input", kind, "time"), (source, "clock", "", clock, clock), (source, "output", "", output, clock + output)]
     at = clock + output
     for gate_signal, way in found:

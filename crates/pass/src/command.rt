@@ -45,8 +45,8 @@ fn is_option(arg: &str) -> bool {
 }
 
 impl Command {
-    // `--help` goes before `--version`, and both go before all that is not an option. An unknown option is told, and nothing
-    // after it is read.
+    // `--help` goes before `--version`, and both go before all that is not an option. An unknown option, or one that another
+    // excludes, is told, and nothing after it is read.
     pub(crate) fn read(rt: &(impl Env + AllocGlobal + Eprint)) -> anyhow::Result<Command> {
         let mut asked = None;
         let mut exit_zero = false;
@@ -63,7 +63,7 @@ impl Command {
                         return Ok(asked.unwrap_or(Command::Usage));
                     };
                     if form.is_some_and(|form| form != told) {
-                        eprintln!(rt; "pass: {option} excludes the option before it")?;
+                        eprintln!(rt; "pass: --json, --paths and --period exclude one another")?;
                         return Ok(asked.unwrap_or(Command::Usage));
                     }
                     form = Some(told);

@@ -55,7 +55,7 @@ fn put_report(
     let Ok(length) = path::path(a, edge, row.signal as usize, room) else {
         return Err(fmt::Error);
     };
-    wording::put_head(out, a, edge, register, row, ends)?;
+    wording::put_head(out, a, edge, register, row)?;
     let path = room.get(..length).ok_or(fmt::Error)?;
     wording::put_path(out, a, edge, path)?;
     wording::put_ends(out, ends)?;

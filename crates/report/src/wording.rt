@@ -30,16 +30,14 @@ pub(crate) fn put_head(
     edge: Edge,
     register: usize,
     row: Register,
-    ends: Ends,
 ) -> fmt::Result {
-    let Ends { required, .. } = ends;
     let Register { early, late, .. } = row;
     let bound = match edge {
         Edge::Late => {
             let (period, setup) = (a.circuit.period(), a.circuit.setup());
             writeln!(
                 out,
-                "  register {register}, setup: latest time, at most {required} = period {period} + early {early} - setup {setup}"
+                "  register {register}, setup: latest time, at most period {period} + early {early} - setup {setup}"
             )?;
             "greatest"
         }
@@ -47,7 +45,7 @@ pub(crate) fn put_head(
             let hold = a.circuit.hold();
             writeln!(
                 out,
-                "  register {register}, hold: earliest time, at least {required} = late {late} + hold {hold} + 1"
+                "  register {register}, hold: earliest time, at least late {late} + hold {hold} + 1"
             )?;
             "least"
         }
