@@ -1,5 +1,5 @@
 #!/usr/bin/env python3
-"""Compares the words of `pass` with those of an implementation of its own, on random circuits.
+"""Compares the words of `pass`, the shortest periods and the paths with those of an implementation of its own, on random circuits.
 
     tests/random_words.py [COUNT]      (6000 circuits if not told; needs a built pass: ./muleminute pass --version builds it)"""
 import os
@@ -44,7 +44,74 @@ def word(gates, registers, times):
         if earliest[signal] <= late + hold:
             by = path(gates, n, earliest, signal, 0, lambda b, a: b < a)
             return "too early at %d%s: %d and %d" % (r, by, earliest[signal], late + hold)
-    return "passed"
+    setup_margin = min(period + early - latest[signal] - setup for signal, early, _ in registers)
+    hold_margin = min(earliest[signal] - 1 - late - hold for signal, _, late in registers)
+    return "passed, margin %d and %d" % (setup_margin, hold_margin)
+
+
+def shortest_period(gates, registers, times):
+    """The first period, counted up from 0, with which no input is too late."""
+    period = 0
+    while word(gates, registers, [period] + times[1:]).startswith("too late"):
+        period += 1
+    return period
+
+
+def period_words(circuit):
+    p = shortest_period(*circuit)
+    return "shortest period %d" % p + (", %d.%03d MHz" % divmod(10 ** 9 // p, 1000) if p else "")
+
+
+TABLES = "never nor first-only not-second second-only not-first xor nand and xnor first first-or-not-second second second-or-not-first or always".split()
+
+
+def steps(gates, n, times, signal, bound, better):
+    """The register where the first path begins that has the signal's time, and for each gate its signal and its input."""
+    found = []
+    while signal >= n:
+        gate = gates[signal - n]
+        one, two = times[gate[0]] + gate[3 + bound], times[gate[1]] + gate[5 + bound]
+        second = better(two, one)
+        found.append((signal, 2 if second else 1))
+        signal = gate[1] if second else gate[0]
+    return signal, found[::-1]
+
+
+def report(gates, registers, times, late, r):
+    """The lines on a register's path, its times summed up step by step."""
+    period, output_early, output_late, setup, hold = times
+    signal, early, last = registers[r]
+    bound, choose, kind = (1, max, "greatest") if late else (0, min, "least")
+    sources = [b + output_late if late else a + output_early for _, a, b in registers]
+    source, found = steps(gates, len(registers), arrivals(gates, sources, bound, choose), signal, bound, (lambda b, a: b > a) if late else (lambda b, a: b < a))
+    clock, output = (registers[source][2], output_late) if late else (registers[source][1], output_early)
+    required = period + early - setup if late else last + hold + 1
+    if late:
+        lines = ["  register %d, setup: latest time, at most period %d + early %d - setup %d" % (r, period, early, setup)]
+    else:
+        lines = ["  register %d, hold: earliest time, at least late %d + hold %d + 1" % (r, last, hold)]
+    rows = [("signal", "table", "input", kind, "time"), (source, "clock", "", clock, clock), (source, "output", "", output, clock + output)]
+    at = clock + output
+    for gate_signal, way in found:
+        gate = gates[gate_signal - len(registers)]
+        delay = gate[(3 if way == 1 else 5) + bound]
+        at += delay
+        rows.append((gate_signal, TABLES[gate[2]], way, delay, at))
+    lines += ["    %6s  %-19s  %5s  %8s  %12s" % row for row in rows]
+    margin = required - at if late else at - required
+    return lines + ["    %-44s  %12d" % row for row in (("arrival", at), ("required", required), ("margin", margin))] + [""]
+
+
+def paths_words(circuit):
+    """The lines behind a circuit's word: for the register that it names, then for the smallest margin of each kind."""
+    gates, registers, times = circuit
+    said = word(*circuit)
+    setups, holds = ([int(report(*circuit, late, r)[-2].split()[1]) for r in range(len(registers))] for late in (True, False))
+    ends = [(True, setups.index(min(setups))), (False, holds.index(min(holds)))]
+    if not said.startswith("passed"):
+        named = (said.startswith("too late"), int(said.split(":")[0].split()[3]))
+        ends = [named] + [end for end in ends if end != named]
+    return [line for late, r in ends for line in report(*circuit, late, r)]
 
 
 def some_circuit(rng):
@@ -67,24 +134,36 @@ def text(name, gates, registers, times):
     return "".join(" ".join(map(str, row)) + "\n" for row in rows)
 
 
+def differ(circuits, expected, *options):
+    """Whether what is printed of the circuits, which are c0, c1 and so on, is not as expected; this is told."""
+    with tempfile.NamedTemporaryFile("w", suffix=".circuit") as f:
+        f.write("".join(text("c%d" % i, *c) for i, c in enumerate(circuits)))
+        f.flush()
+        answers = subprocess.run([PASS, *options, f.name], capture_output=True, text=True).stdout.splitlines()
+    for got, want in zip(answers, expected):
+        if got != want:
+            print("got  %s\nwant %s" % (got, want))
+            return True
+    if len(answers) != len(expected):
+        print("%d lines and not %d" % (len(answers), len(expected)))
+        return True
+    return False
+
+
 def main():
     count = int(sys.argv[1]) if len(sys.argv) > 1 else 6000
     rng = random.Random(5)
     circuits = [some_circuit(rng) for _ in range(count)]
     expected = ["c%d: %s" % (i, word(*c)) for i, c in enumerate(circuits)]
-    with tempfile.NamedTemporaryFile("w", suffix=".circuit") as f:
-        f.write("".join(text("c%d" % i, *c) for i, c in enumerate(circuits)))
-        f.flush()
-        answers = subprocess.run([PASS, f.name], capture_output=True, text=True).stdout.splitlines()
-    for got, want in zip(answers, expected):
-        if got != want:
-            print("got  %s\nwant %s" % (got, want))
-            return 1
-    if len(answers) != count:
-        print("%d answers to %d circuits" % (len(answers), count))
+    if differ(circuits, expected):
+        return 1
+    few = circuits[:count // 10]
+    if differ(few, ["c%d: %s" % (i, period_words(c)) for i, c in enumerate(few)], "--period"):
+        return 1
+    if differ(few, [line for i, c in enumerate(few) for line in ["c%d: %s" % (i, word(*c))] + paths_words(c)], "--paths"):
         return 1
     kinds = [sum(k in w for w in expected) for k in (": passed", ": too late", ": too early")]
-    print("%d circuits, all words the same: %d passed, %d too late, %d too early" % ((count,) + tuple(kinds)))
+    print("%d circuits, all words the same: %d passed, %d too late, %d too early; %d shortest periods and paths the same" % ((count,) + tuple(kinds) + (len(few),)))
     return 0
 
 

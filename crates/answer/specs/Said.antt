@@ -1,9 +1,10 @@
--- When a circuit that was read is passed.
-use Rattle.std.specs.Prelude.{◌≡◌, Bool, true, false, None}
+-- When a circuit that was read is passed, and its shortest period.
+use Rattle.std.specs.Prelude.{◌≡◌, ℕ, Bool, true, false, Some, None, Option}
 use Rattle.circuit.specs.Whole.{Whole}
 use Rattle.text.specs.Meaning.{Drafted}
 use Rattle.promise.specs.Machine.{Machine, machine_in, Passed}
 use Rattle.promise.specs.Promise.{AsDrawn}
+use Rattle.slack.specs.Period.{IsShortest}
 
 abbrev pub machine_of : Drafted → Machine
 machine_of d = machine_in d.gates d.registers d.times
@@ -25,3 +26,8 @@ Fit d = Taken d × Passed (machine_of d)
 abbrev pub PassedIf : Drafted → Bool → Type 0
 PassedIf d true = Fit d × AsDrawn (machine_of d)
 PassedIf d false = Fit d → ⊥
+
+-- p is its shortest period; there is none where it is turned away
+abbrev pub PeriodIf : Drafted → Option ℕ → Type 0
+PeriodIf d (Some p) = Taken d × IsShortest (machine_of d) p
+PeriodIf d None = Taken d → ⊥

@@ -1,19 +1,21 @@
 // What is said of a circuit that was read.
 #![tactic(auto)]
 
-ghost use Rattle.std.specs.Prelude.{◌≡◌, IfOk, is_some};
+ghost use Rattle.std.specs.Prelude.{◌≡◌, IfOk, IfSome, is_some, vec_items};
+ghost use Rattle.slack.specs.Margin.{AreSmallest};
 ghost use Rattle.text.specs.Meaning.{drafted};
-ghost use Rattle.answer.specs.Said.{PassedIf, Taken, TurnedAwayIf};
+ghost use Rattle.answer.specs.Said.{machine_of, PassedIf, PeriodIf, Taken, TurnedAwayIf};
 
-use circuit::{MOST_GATES, Refusal};
-use reason::{Detail, Reason};
+use circuit::{Circuit, MOST_GATES, Numbers, Refusal};
+use reason::Detail;
 use signoff::Verdict;
+use slack::Smallest;
 use std::alloc::Global;
 use std::fmt;
 use std::fmt::Write;
 use text::Draft;
-use wording::Missed;
-pub use wording::{Title, TurnedAway};
+use wording::{Margins, Missed, Shortest};
+pub use wording::{Refused, Title, TurnedAway, Why};
 
 mod wording;
 
@@ -21,12 +23,34 @@ mod wording;
 // to `signoff::pass`.
 const LONGEST_PATH: usize = 1 + 2 * MOST_GATES;
 
-// The line that is said of a circuit, and whether it is passed.
+// The line that is said of a circuit, and where it is passed the smallest margins, which the line tells.
 #[derive(Drop)]
 pub struct Said {
     pub line: String,
-    // There is a line either way, so a Result would hold it in both cases.
-    pub passed: bool,
+    pub margins: Option<Smallest>,
+}
+
+// The line that is said of a circuit's period, and the shortest one, None where the circuit is turned away.
+#[derive(Drop)]
+pub struct Paced {
+    pub line: String,
+    pub period: Option<u64>,
+}
+
+// The circuit that was read, where it is not turned away.
+fn taken(draft: &Draft) -> Circuit<'_>
+    requires { Taken (drafted draft.now) }
+    ensures { (result.gates.now ≡ draft.now.gates.items) × (result.registers.now ≡ draft.now.registers.items) × (result.times.now ≡ draft.now.times.items) }
+{
+    let numbers = Numbers {
+        gates: &draft.gates,
+        registers: &draft.registers,
+        times: &draft.times,
+    };
+    let Ok(circuit) = Circuit::try_from(numbers) else {
+        unreachable!()
+    };
+    circuit
 }
 
 // A circuit that was read, what it was read from, and the number of lines before that.
@@ -49,41 +73,32 @@ impl Source<'_> {
         line.unwrap_or(self.draft.line).saturating_add(self.before)
     }
 
-    // A refusal in detail and with its line.
-    fn put_reason(self, out: &mut String, reason: Reason) -> fmt::Result {
-        let line = self.line_of(reason.detail);
-        let refused = TurnedAway {
-            refusal: reason.refusal,
-            why: reason.detail,
-        };
-        writeln!(out, "{refused} (line {line})")?;
-        Ok(())
-    }
-
-    // The line on which a circuit is turned away, put behind its name; false where its numbers are one.
-    fn put_refusal(self, out: &mut String) -> Result<bool, fmt::Error>
-        ensures { IfOk result (λ refused. TurnedAwayIf (drafted self.entry.draft.now) refused) }
+    // Why a circuit is turned away, None where its numbers are one.
+    fn refused(self) -> Option<Refused>
+        ensures { TurnedAwayIf (drafted self.entry.draft.now) (is_some result) }
     {
         let draft = self.draft;
         if let Some(miscount) = draft.miscount {
-            let number = miscount.line.saturating_add(self.before);
-            let refused = TurnedAway::miscounted(miscount.part);
-            writeln!(out, "{refused} (line {number})")?;
-            return Ok(true);
+            return Some(Refused {
+                what: TurnedAway::miscounted(miscount.part),
+                line: miscount.line.saturating_add(self.before),
+            });
         }
-        match reason::explain(&draft.gates, &draft.registers, &draft.times) {
-            Some(reason) => {
-                self.put_reason(out, reason)?;
-                Ok(true)
-            }
-            None => Ok(false),
-        }
+        let reason = reason::explain(&draft.gates, &draft.registers, &draft.times)?;
+        Some(Refused {
+            what: TurnedAway {
+                refusal: reason.refusal,
+                why: Why::Detail(reason.detail),
+            },
+            line: self.line_of(reason.detail),
+        })
     }
 
     // The word on a circuit that is not turned away, put behind its name.
     fn judge(self, mut line: String) -> Result<Said, fmt::Error>
         requires { Taken (drafted self.draft.now) }
-        ensures { IfOk result (λ a. PassedIf (drafted self.entry.draft.now) a.passed) }
+        ensures passed { IfOk result (λ a. PassedIf (drafted self.entry.draft.now) (is_some a.margins)) }
+        ensures margins { IfOk result (λ a. IfSome a.margins (AreSmallest (machine_of (drafted self.entry.draft.now)))) }
     {
         let draft = self.draft;
         let mut room = [0; LONGEST_PATH];
@@ -91,8 +106,10 @@ impl Source<'_> {
         let room = &room;
         match verdict {
             Ok(Verdict::Passed) => {
-                writeln!(line, "passed")?;
-                return Ok(Said { line, passed: true });
+                let smallest = slack::smallest(taken(draft));
+                writeln!(line, "passed, {}", Margins(smallest))?;
+                let margins = Some(smallest);
+                return Ok(Said { line, margins });
             }
             Ok(Verdict::TooLate(miss)) => writeln!(line, "too late {}", Missed { miss, room })?,
             Ok(Verdict::TooEarly(miss)) => writeln!(line, "too early {}", Missed { miss, room })?,
@@ -104,14 +121,15 @@ impl Source<'_> {
         }
         Ok(Said {
             line,
-            passed: false,
+            margins: None,
         })
     }
 }
 
 // What is said of a circuit that was read. `text` is what it was read from, and `before` the number of lines before that.
 pub fn answer(heap: Global, draft: &Draft, text: &[u8], before: usize) -> Result<Said, fmt::Error>
-    ensures { IfOk result (λ a. PassedIf (drafted draft.now) a.passed) }
+    ensures passed { IfOk result (λ a. PassedIf (drafted draft.now) (is_some a.margins)) }
+    ensures margins { IfOk result (λ a. IfSome a.margins (AreSmallest (machine_of (drafted draft.now)))) }
 {
     let mut line = String::new(heap);
     write!(line, "{}", Title(&draft.name))?;
@@ -120,13 +138,26 @@ pub fn answer(heap: Global, draft: &Draft, text: &[u8], before: usize) -> Result
         text,
         before,
     };
-    if source.put_refusal(&mut line)? {
+    if let Some(refused) = source.refused() {
+        writeln!(line, "{refused}")?;
         return Ok(Said {
             line,
-            passed: false,
+            margins: None,
         });
     }
     source.judge(line)
+}
+
+// Why a circuit that was read is turned away, None where it is not; the rest is as for `answer`.
+pub fn refused(draft: &Draft, text: &[u8], before: usize) -> Option<Refused>
+    ensures { TurnedAwayIf (drafted draft.now) (is_some result) }
+{
+    Source {
+        draft,
+        text,
+        before,
+    }
+    .refused()
 }
 
 // The line on which a circuit that was read is turned away, None where it is not; the rest is as for `answer`.
@@ -145,6 +176,30 @@ pub fn turned_away(
         text,
         before,
     };
-    let refused = source.put_refusal(&mut line)?;
-    Ok(refused.then_some(line))
+    let Some(refused) = source.refused() else {
+        return Ok(None);
+    };
+    writeln!(line, "{refused}")?;
+    Ok(Some(line))
+}
+
+// What is said of a circuit's shortest period, and of the frequency that it allows; the rest is as for `answer`.
+pub fn period(heap: Global, draft: &Draft, text: &[u8], before: usize) -> Result<Paced, fmt::Error>
+    ensures { IfOk result (λ a. PeriodIf (drafted draft.now) a.period) }
+{
+    let mut line = String::new(heap);
+    write!(line, "{}", Title(&draft.name))?;
+    let source = Source {
+        draft,
+        text,
+        before,
+    };
+    if let Some(refused) = source.refused() {
+        writeln!(line, "{refused}")?;
+        return Ok(Paced { line, period: None });
+    }
+    let shortest = slack::shortest_period(taken(draft));
+    writeln!(line, "{}", Shortest(shortest))?;
+    let period = Some(shortest);
+    Ok(Paced { line, period })
 }

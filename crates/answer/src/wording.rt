@@ -1,6 +1,8 @@
 // The words on a circuit.
 use circuit::Refusal;
+use reason::Detail;
 use signoff::Miss;
+use slack::Smallest;
 use std::fmt;
 use std::fmt::Write;
 use text::Part;
@@ -28,14 +30,44 @@ pub struct TurnedAway<D> {
     pub why: D,
 }
 
-impl TurnedAway<&'static str> {
+// Why a circuit that was read is turned away: a line has another count of numbers than it should, in words; or what is
+// wrong with the numbers.
+#[derive(Clone, Copy)]
+pub enum Why {
+    Miscount(&'static str),
+    Detail(Detail),
+}
+
+impl fmt::Display for Why {
+    fn fmt<W: fmt::Write>(&self, f: &mut fmt::Formatter<W>) -> fmt::Result {
+        match self {
+            Why::Miscount(words) => f.write_str(words),
+            Why::Detail(detail) => write!(f, "{detail}"),
+        }
+    }
+}
+
+// A refusal of a circuit that was read, and the line that it is about.
+#[derive(Clone, Copy)]
+pub struct Refused {
+    pub what: TurnedAway<Why>,
+    pub line: usize,
+}
+
+impl fmt::Display for Refused {
+    fn fmt<W: fmt::Write>(&self, f: &mut fmt::Formatter<W>) -> fmt::Result {
+        write!(f, "{} (line {})", self.what, self.line)
+    }
+}
+
+impl TurnedAway<Why> {
     // For a line of a part that has another count of numbers than it should.
     pub(crate) fn miscounted(part: Part) -> Self {
-        let why = match part {
+        let why = Why::Miscount(match part {
             Part::Gates => "a gate has 7 numbers",
             Part::Registers => "a register has 3 numbers",
             Part::Times => "there are 5 times",
-        };
+        });
         TurnedAway {
             refusal: part.into(),
             why,
@@ -68,5 +100,38 @@ impl fmt::Display for Missed<'_> {
             write!(f, "{before}{gate}")?;
         }
         write!(f, ": {} and {}", self.miss.arrival, self.miss.limit)
+    }
+}
+
+// The smallest setup margin and the smallest hold margin.
+#[derive(Clone, Copy)]
+pub(crate) struct Margins(pub(crate) Smallest);
+
+impl fmt::Display for Margins {
+    fn fmt<W: fmt::Write>(&self, f: &mut fmt::Formatter<W>) -> fmt::Result {
+        write!(
+            f,
+            "margin {} and {}",
+            self.0.setup.margin, self.0.hold.margin
+        )
+    }
+}
+
+// A circuit's shortest period, and the frequency of it in MHz.
+#[derive(Clone, Copy)]
+pub(crate) struct Shortest(pub(crate) u64);
+
+impl fmt::Display for Shortest {
+    fn fmt<W: fmt::Write>(&self, f: &mut fmt::Formatter<W>) -> fmt::Result {
+        write!(f, "shortest period {}", self.0)?;
+        match slack::frequency(self.0) {
+            Some(thousandths) => write!(
+                f,
+                ", {}.{:03} MHz",
+                thousandths / 1000,
+                thousandths % 1000
+            ),
+            None => Ok(()),
+        }
     }
 }

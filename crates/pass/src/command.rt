@@ -8,7 +8,36 @@ pub(crate) enum Command {
     Version,
     // Nothing that can be done, so how it is asked for is told.
     Usage,
-    Pass { files: Vec<String>, exit_zero: bool },
+    Pass {
+        files: Vec<String>,
+        form: Form,
+        exit_zero: bool,
+    },
+}
+
+// What is told of each circuit.
+#[derive(Clone, Copy, PartialEq, Eq)]
+pub(crate) enum Form {
+    // Its word.
+    Words,
+    // Its word, and paths step by step.
+    Paths,
+    // Its shortest period.
+    Period,
+    // All that is found, as JSON.
+    Json,
+}
+
+impl Form {
+    // What an option asks for.
+    fn of(option: &str) -> Option<Form> {
+        match option {
+            "--json" => Some(Form::Json),
+            "--paths" => Some(Form::Paths),
+            "--period" => Some(Form::Period),
+            _ => None,
+        }
+    }
 }
 
 fn is_option(arg: &str) -> bool {
@@ -16,20 +45,28 @@ fn is_option(arg: &str) -> bool {
 }
 
 impl Command {
-    // `--help` goes before `--version`, and both go before all that is not an option. An unknown option is told, and nothing
-    // after it is read.
+    // `--help` goes before `--version`, and both go before all that is not an option. An unknown option, or one that another
+    // excludes, is told, and nothing after it is read.
     pub(crate) fn read(rt: &(impl Env + AllocGlobal + Eprint)) -> anyhow::Result<Command> {
         let mut asked = None;
         let mut exit_zero = false;
+        let mut form = None;
         let mut files = Vec::new(rt.alloc());
         for arg in env::args(rt)?.skip(1) {
             match arg.as_str() {
                 "--help" => asked = Some(Command::Help),
                 "--version" => asked = asked.or(Some(Command::Version)),
                 "--exit-zero" => exit_zero = true,
-                unknown if is_option(unknown) => {
-                    eprintln!(rt; "pass: unknown option {unknown}")?;
-                    return Ok(asked.unwrap_or(Command::Usage));
+                option if is_option(option) => {
+                    let Some(told) = Form::of(option) else {
+                        eprintln!(rt; "pass: unknown option {option}")?;
+                        return Ok(asked.unwrap_or(Command::Usage));
+                    };
+                    if form.is_some_and(|form| form != told) {
+                        eprintln!(rt; "pass: --json, --paths and --period exclude one another")?;
+                        return Ok(asked.unwrap_or(Command::Usage));
+                    }
+                    form = Some(told);
                 }
                 _ => files.push(arg)?,
             }
@@ -37,6 +74,11 @@ impl Command {
         if files.is_empty() {
             return Ok(asked.unwrap_or(Command::Usage));
         }
-        Ok(asked.unwrap_or(Command::Pass { files, exit_zero }))
+        let form = form.unwrap_or(Form::Words);
+        Ok(asked.unwrap_or(Command::Pass {
+            files,
+            form,
+            exit_zero,
+        }))
     }
 }

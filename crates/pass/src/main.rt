@@ -1,22 +1,29 @@
 // pass: passes the circuits of files, or names what stands in their way.
 #![tactic(auto)]
 
-use answer::Said;
-use command::Command;
+use answer::Refused;
+use as_json::Place;
+use circuit::{Circuit, Numbers};
+use command::{Command, Form};
 use fields::Fault;
+use std::alloc::{AllocError, Global};
+use std::fmt::Write;
 use std::process::ExitCode;
 use std::rt::Files;
 use std::{fmt, io};
+use text::Draft;
 
 mod command;
 
-const USAGE: &str = "usage: pass [--exit-zero] [--help] [--version] FILE...";
+const USAGE: &str =
+    "usage: pass [--json | --paths | --period] [--exit-zero] [--help] [--version] FILE...";
 
 const HELP: &str =
     "Passes the circuits of each FILE, in order, or says what stands in the way: a line for each.
 
-  passed                      whatever delays and clocks do within their bounds, the
-                              registers hold what the drawing says, in every cycle
+  passed, margin A and B      whatever delays and clocks do within their bounds, the
+                              registers hold what the drawing says, in every cycle; the
+                              setup time could be longer by A, the hold time by B
   too late at R by G, G: A and B
                               the input of register R comes too late, by the path through
                               these gates: latest time and setup A, period and early time B
@@ -27,13 +34,19 @@ const HELP: &str =
                               the numbers are no circuit
 
   FILE          a text of circuits; - is standard input
+  --json        print for each circuit an object of JSON on a line of its own, which
+                docs/JSON.md describes
+  --paths       after the word on a circuit tell, step by step, the path to the register that
+                it names, and those to the registers with the smallest margin of each kind
+  --period      print for each circuit the shortest period with which no input comes too
+                late, and the frequency of it: shortest period 17, 58823.529 MHz
   --exit-zero   end with status 0 whatever is said of the circuits
   --help        print this and end
   --version     print the version and end
 
-Status 0 if every circuit is passed; else 1. A file that cannot be read, that has a fault
-in its text, or that has no circuit is an error: it is told on standard error, and the
-status is 1 in any case.";
+Status 0 if every circuit is passed, or with --period if none is turned away; else 1. A file
+that cannot be read, that has a fault in its text, or that has no circuit is an error: it is
+told on standard error, and the status is 1 in any case.";
 
 const VERSION: &str = "pass (muleminute) 0.1.0";
 
@@ -43,17 +56,17 @@ const COLLECTED: usize = 60_000;
 // What was found, from best to worst.
 #[derive(Clone, Copy, PartialEq, Eq, PartialOrd, Ord)]
 enum Outcome {
-    // Every circuit was passed.
+    // Every circuit was passed; or had a shortest period, where this is asked for.
     Passed,
-    // A circuit was not passed.
+    // A circuit was not.
     NotPassed,
     // A file could not be read, has a fault, or has no circuit.
     Unsound,
 }
 
 impl Outcome {
-    fn of(said: &Said) -> Outcome {
-        if said.passed {
+    fn of(passed: bool) -> Outcome {
+        if passed {
             Outcome::Passed
         } else {
             Outcome::NotPassed
@@ -95,10 +108,82 @@ fn flush(rt: &impl Print, out: &mut String) -> io::Result<()> {
     Ok(())
 }
 
+// A circuit that was read: the name of its file, what it was read from, and the number of lines before that.
+#[derive(Clone, Copy)]
+struct Source<'a> {
+    file: &'a str,
+    draft: &'a Draft,
+    text: &'a [u8],
+    before: usize,
+}
+
+impl<'a> Source<'a> {
+    fn place(self) -> Place<'a> {
+        Place {
+            file: self.file,
+            name: &self.draft.name,
+            line: self.draft.line.saturating_add(self.before),
+        }
+    }
+
+    // The circuit, or why it is turned away.
+    fn circuit(self) -> Result<Circuit<'a>, Refused> {
+        let draft = self.draft;
+        if let Some(refused) = answer::refused(draft, self.text, self.before) {
+            return Err(refused);
+        }
+        let Ok(circuit) = Circuit::try_from(Numbers {
+            gates: &draft.gates,
+            registers: &draft.registers,
+            times: &draft.times,
+        }) else {
+            unreachable!()
+        };
+        Ok(circuit)
+    }
+
+    // All that is found, as JSON.
+    fn json(self, heap: Global) -> Result<String, AllocError> {
+        match self.circuit() {
+            Ok(circuit) => as_json::judged(heap, self.place(), circuit),
+            Err(refused) => as_json::turned_away(heap, self.place(), refused),
+        }
+    }
+
+    // What is told of it, and what was found.
+    fn tell(self, heap: Global, form: Form, out: &mut String) -> anyhow::Result<Outcome> {
+        let Source {
+            draft,
+            text,
+            before,
+            ..
+        } = self;
+        if form == Form::Period {
+            let paced = answer::period(heap, draft, text, before)?;
+            out.push_str(&paced.line)?;
+            return Ok(Outcome::of(paced.period.is_some()));
+        }
+        let said = answer::answer(heap, draft, text, before)?;
+        if form == Form::Json {
+            writeln!(out, "{}", self.json(heap)?)?;
+        } else {
+            out.push_str(&said.line)?;
+        }
+        if form == Form::Paths {
+            if let Ok(circuit) = self.circuit() {
+                report::put(out, circuit)?;
+            }
+        }
+        Ok(Outcome::of(said.margins.is_some()))
+    }
+}
+
 // The circuits of one text. What is collected is written out on both ways out of the loop, so a fault breaks out of it
 // with a value, without `?`. The reader counts lines from 1 in what is handed to it, so those before are added here.
 fn pass_text(
     rt: &(impl Print + AllocGlobal),
+    form: Form,
+    file: &str,
     bytes: &[u8],
 ) -> anyhow::Result<Result<Outcome, Flaw>> {
     let heap = rt.alloc();
@@ -115,9 +200,14 @@ fn pass_text(
                 break Err(Flaw::Fault(Fault { line, expected }));
             }
         };
-        let said = answer::answer(heap, &read.draft, rest, before)?;
-        out.push_str(said.line.as_str())?;
-        worst = worst.max(Some(Outcome::of(&said)));
+        let source = Source {
+            file,
+            draft: &read.draft,
+            text: rest,
+            before,
+        };
+        let outcome = source.tell(heap, form, &mut out)?;
+        worst = worst.max(Some(outcome));
         before = before.saturating_add(read.rest.number).saturating_sub(1);
         rest = read.rest.text;
         if out.len() > COLLECTED {
@@ -130,10 +220,11 @@ fn pass_text(
 
 fn pass_file(
     rt: &(impl Files + Input + Print + Eprint + AllocGlobal),
+    form: Form,
     path: &str,
 ) -> anyhow::Result<Outcome> {
     let outcome = match input::read_all(rt, path) {
-        Ok(bytes) => pass_text(rt, &bytes)?,
+        Ok(bytes) => pass_text(rt, form, path, &bytes)?,
         Err(e) => Err(Flaw::Unreadable(e)),
     };
     match outcome {
@@ -159,10 +250,14 @@ fn run(rt: &HostRuntime) -> anyhow::Result<ExitCode> {
             eprintln!(rt; "{USAGE}")?;
             Ok(ExitCode::FAILURE)
         }
-        Command::Pass { files, exit_zero } => {
+        Command::Pass {
+            files,
+            form,
+            exit_zero,
+        } => {
             let mut worst = Outcome::Passed;
             for path in &files {
-                worst = worst.max(pass_file(rt, path.as_str())?);
+                worst = worst.max(pass_file(rt, form, path.as_str())?);
             }
             Ok(worst.status(exit_zero))
         }

@@ -8,8 +8,12 @@ use Rattle.arrival.specs.declared.edge.Edge.{Edge}
 use Rattle.arrival.specs.declared.edge.Edge.TheVariants.{Late, Early}
 use Rattle.promise.specs.Machine.{Machine, Formed}
 use Rattle.slack.specs.Margin.{margin_of, Enough, Kept, PassedByMargins, MarginIsExact, MarginGrows, MarginsIn, IsWorst, AreSmallest}
+use Rattle.slack.specs.Required.{MarginIsBetween}
 use Rattle.slack.specs.declared.worst.Worst.{Worst}
 use Rattle.slack.specs.declared.worst.Smallest.{Smallest}
+
+pub is_between : MarginIsBetween
+is_between m r = (omega (arith, ints), omega (arith, ints))
 
 pub is_exact : MarginIsExact
 is_exact Late m r t = (λ kept. omega (arith, ints), λ at_most. omega (arith, ints))

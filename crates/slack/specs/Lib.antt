@@ -1,3 +1,4 @@
 pub mod Margin
 pub mod Period
+pub mod Required
 pub mod Word

@@ -3,19 +3,29 @@
 
 ghost use Rattle.slack.specs.Margin.{PassedByMargins, MarginIsExact, MarginGrows};
 ghost use Rattle.slack.specs.Period.{OtherPeriod, OneLessIsNot, PassedFromShortest};
+ghost use Rattle.slack.specs.Required.{MarginIsBetween};
 ghost use Rattle.slack.specs.Word.{VerdictByMargins};
 
+mod endpoint;
 mod margin;
 mod period;
 mod worst;
 
-pub use margin::{margins, smallest};
+pub use endpoint::Ends;
+pub use margin::{ends, margins, smallest};
 pub use period::{frequency, shortest_period};
 pub use worst::{Smallest, Worst};
 
 // A machine is passed exactly if it is well formed and no margin is below 0.
 pub fn passed_by_margins() -> u8
     ensures { PassedByMargins }
+{
+    0
+}
+
+// A margin is what lies between the time of arrival and the one that is required.
+pub fn margin_is_between() -> u8
+    ensures { MarginIsBetween }
 {
     0
 }

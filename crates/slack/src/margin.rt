@@ -1,12 +1,14 @@
 // The margins of a circuit's registers.
-ghost use Rattle.std.specs.Prelude.{◌≡◌, ◌*◌, ◌^◌, ◌<◌, ◌≤◌, length, MatchResult, pos, ◌<ℤ◌};
+ghost use Rattle.std.specs.Prelude.{◌≡◌, ◌*◌, ◌^◌, ◌<◌, ◌≤◌, length, MatchOption, MatchResult, pos, ◌<ℤ◌};
 ghost use Rattle.circuit.specs.Checked.{of, registers_of};
 ghost use Rattle.circuit.specs.Lent.{takes};
 ghost use Rattle.circuit.specs.declared.refusal.Refusal.TheVariants.{NoRoom};
 ghost use Rattle.arrival.specs.Lent.{time_of};
 ghost use Rattle.promise.specs.Machine.{machine_in};
 ghost use Rattle.slack.specs.Margin.{margin_of, MarginsIn, IsWorst, AreSmallest};
+ghost use Rattle.slack.specs.Required.{required_of, IsEnds};
 
+use crate::endpoint::Ends;
 use crate::worst::{Smallest, Worst};
 use arrival::{Arrivals, Edge, MOST_SIGNALS, fill_from_registers};
 use circuit::{Circuit, MOST_REGISTERS, Refusal, Register};
@@ -43,6 +45,34 @@ fn margin(a: Arrivals<'_, '_>, edge: Edge, r: usize) -> i64
             arrival - limit - 1
         }
     }
+}
+
+// When the signal that a register takes has to come: at the latest for its setup sum, at the earliest for its hold sum.
+fn required(c: Circuit<'_>, edge: Edge, r: usize) -> i64
+    requires { r < registers_of c }
+    ensures { result ≡ required_of edge (of c.entry machine_in) r }
+{
+    let register = Register::from(c.registers()[r]);
+    match edge {
+        Edge::Late => { i64::from(c.period()) + i64::from(register.early) - i64::from(c.setup()) }
+        Edge::Early => i64::from(register.late) + i64::from(c.hold()) + 1,
+    }
+}
+
+// The three times of a register for one of its sums, None where there is no such register.
+pub fn ends(a: Arrivals<'_, '_>, edge: Edge, register: usize) -> Option<Ends>
+    ensures { MatchOption result
+        (registers_of a.entry.circuit ≤ register)
+        (λ x. (register < registers_of a.entry.circuit) × IsEnds edge a.entry.circuit register x) }
+{
+    if register >= a.circuit.register_count() {
+        return None;
+    }
+    Some(Ends {
+        arrival: arrival_at(a, edge, register),
+        required: required(a.circuit, edge, register),
+        margin: margin(a, edge, register),
+    })
 }
 
 // The smallest margin of one kind.

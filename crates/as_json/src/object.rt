@@ -1,0 +1,57 @@
+// A JSON object that is built key by key.
+ghost use Rattle.std.specs.Prelude.{◌≤◌, IfOk, IsSome, string_bytes};
+ghost use Rattle.serde_json.specs.Data.{depth, members_depth};
+ghost use Rattle.serde_json.specs.Read.{read};
+ghost use Rattle.serde_json.specs.View.{view, members_view};
+
+use serde_json::{Map, Value};
+use std::alloc::{AllocError, Global};
+
+// Its members nest no deeper than one level, so that what is written can be read.
+#[derive(Drop)]
+pub(crate) struct Object {
+    heap: Global,
+    map: Map<String, Value>,
+    ghost shallow: { members_depth (members_view map.entries) ≤ 1 },
+}
+
+impl Object {
+    pub(crate) fn new(heap: Global) -> Object {
+        Object {
+            heap,
+            map: Map::new(heap),
+        }
+    }
+
+    pub(crate) fn put(&mut self, key: &str, value: Value) -> Result<(), AllocError>
+        requires { depth (view value) ≤ 1 }
+    {
+        serde_json::put(&mut self.map, self.heap, key, value)
+    }
+
+    pub(crate) fn put_text(&mut self, key: &str, text: &str) -> Result<(), AllocError> {
+        let text = String::from_str(self.heap, text)?;
+        self.put(key, Value::from(text))
+    }
+
+    // The object as one line, without its end.
+    pub(crate) fn line(self) -> Result<String, AllocError>
+        ensures { IfOk result (λ line. IsSome (read (string_bytes line))) }
+    {
+        Value::from(self.map).to_string(self.heap)
+    }
+}
+
+// The signals of a path of so many numbers, with which the room begins: a source, then of each gate its signal and the
+// input that the path comes in by.
+pub(crate) fn signals(heap: Global, room: &[u32], length: usize) -> Result<Value, AllocError>
+    ensures { IfOk result (λ v. depth (view v) ≤ 1) }
+{
+    let mut signals = Vec::new(heap);
+    for (i, number) in room.iter().take(length).enumerate() {
+        if i == 0 || i % 2 == 1 {
+            serde_json::push(&mut signals, Value::from(*number))?;
+        }
+    }
+    Ok(Value::from(signals))
+}

@@ -1,0 +1,20 @@
+-- What is told of a step of a path.
+use Rattle.std.specs.Prelude.{◌≡◌, ℕ, ◌+◌, ◌<◌, Bool}
+use Rattle.circuit.specs.Checked.{of, gates_of, registers_of}
+use Rattle.circuit.specs.Lent.{gate_in}
+use Rattle.circuit.specs.declared.circuit.Circuit as checked
+use Rattle.arrival.specs.Arrival.{delay}
+use Rattle.arrival.specs.Lent.{time_of}
+use Rattle.arrival.specs.declared.edge.Edge.{Edge}
+use Rattle.report.specs.declared.shown.Step.{Step}
+
+-- the signal is that of gate k
+abbrev pub IsGate : checked.Circuit → (signal k : ℕ) → Type 0
+IsGate c signal k = (signal ≡ registers_of c + k) × (k < gates_of c)
+
+-- a step has the delay at the input that it comes in by, and the time of the gate's signal
+abbrev pub IsStep : Edge → checked.Circuit → (signal : ℕ) → (second : Bool) → Step → Type 0
+IsStep e c signal second s =
+    (s.signal ≡ signal) × (s.second ≡ second)
+    × ((k : ℕ) → IsGate c signal k → (s.delay ≡ delay e second (gate_in c.gates.now k)) × (s.table ≡ (gate_in c.gates.now k).table))
+    × (s.time ≡ of c (time_of e) signal)

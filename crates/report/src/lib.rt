@@ -1,0 +1,95 @@
+// The paths of a circuit's registers, told step by step.
+#![tactic(auto)]
+
+use arrival::{Arrivals, Edge, MOST_SIGNALS, fill_from_registers};
+use circuit::{Circuit, MOST_GATES, Register};
+use signoff::Verdict;
+use std::fmt;
+use std::fmt::Write;
+
+mod rows;
+mod shown;
+mod wording;
+
+pub use rows::step;
+pub use shown::Step;
+
+// As many numbers as a path can have: a register, and two for each gate.
+const LONGEST_PATH: usize = 1 + 2 * MOST_GATES;
+
+// A register, and the sum that is looked at: the one of its latest or of its earliest time.
+#[derive(Clone, Copy, PartialEq)]
+struct Endpoint {
+    edge: Edge,
+    register: usize,
+}
+
+// The register that the word on a circuit names.
+fn named(circuit: Circuit<'_>, room: &mut [u32]) -> Option<Endpoint> {
+    let Circuit {
+        gates,
+        registers,
+        times,
+    } = circuit;
+    let (edge, miss) = match signoff::pass(gates, registers, times, room) {
+        Ok(Verdict::TooLate(miss)) => (Edge::Late, miss),
+        Ok(Verdict::TooEarly(miss)) => (Edge::Early, miss),
+        Ok(Verdict::Passed) | Err(_) => return None,
+    };
+    let register = miss.register;
+    Some(Endpoint { edge, register })
+}
+
+// The report on a register. The room has a path's length.
+fn put_report(
+    out: &mut String,
+    a: Arrivals<'_, '_>,
+    endpoint: Endpoint,
+    room: &mut [u32],
+) -> fmt::Result {
+    let Endpoint { edge, register } = endpoint;
+    let Some(ends) = slack::ends(a, edge, register) else {
+        return Ok(());
+    };
+    let row = Register::from(a.circuit.registers()[register]);
+    let Ok(length) = path::path(a, edge, row.signal as usize, room) else {
+        return Err(fmt::Error);
+    };
+    wording::put_head(out, a, edge, register, row)?;
+    let path = room.get(..length).ok_or(fmt::Error)?;
+    wording::put_path(out, a, edge, path)?;
+    wording::put_ends(out, ends)?;
+    writeln!(out)?;
+    Ok(())
+}
+
+// Reports on a circuit: on the register that its word names, if it names one; then on the register with the smallest setup
+// margin and on that with the smallest hold margin, unless it is the one named.
+pub fn put(out: &mut String, circuit: Circuit<'_>) -> fmt::Result {
+    let mut latest = [0; MOST_SIGNALS];
+    let mut earliest = [0; MOST_SIGNALS];
+    let Ok(()) = fill_from_registers(circuit, &mut latest, &mut earliest) else {
+        unreachable!()
+    };
+    let a = Arrivals::new(circuit, &latest, &earliest);
+    let mut room = [0; LONGEST_PATH];
+    let named = named(circuit, &mut room);
+    if let Some(endpoint) = named {
+        put_report(out, a, endpoint, &mut room)?;
+    }
+    let smallest = slack::smallest(circuit);
+    let setup = Endpoint {
+        edge: Edge::Late,
+        register: smallest.setup.register,
+    };
+    let hold = Endpoint {
+        edge: Edge::Early,
+        register: smallest.hold.register,
+    };
+    for endpoint in [setup, hold] {
+        if named != Some(endpoint) {
+            put_report(out, a, endpoint, &mut room)?;
+        }
+    }
+    Ok(())
+}
