@@ -1,12 +1,12 @@
 -- The names of tables, each looked up by its number.
-use Rattle.std.proofs.Common.{rules, ◌≡◌, ℕ, ◌<◌, ◌≤◌, Bool, true, false, eqb, List, [], map, length, get_or, Some, None, Option, MatchOption, refl, ap, sym, ◌∙◌}
+use Rattle.std.proofs.Common.{rules, ◌≡◌, ℕ, ◌≤◌, Bool, true, false, eqb, List, [], map, get_or, Some, None, Option, MatchOption, refl, ap, sym, ◌∙◌}
 use Rattle.std.specs.Borrow.{Bor}
 use Rattle.std.specs.Option.{option_copied}
 use Rattle.std.specs.Slice.{IsItemAt}
 use Rattle.std.proofs.lemmas.Bool.{eqb-true}
 use Rattle.std.proofs.lemmas.List.{get_or-map, length-map}
 use Rattle.circuit.specs.Gate.{tables}
-use Rattle.circuit.proofs.Tables.{every, at}
+use Rattle.circuit.proofs.Tables.{at}
 use Rattle.fields.specs.Fields.{named, IsAt}
 
 -- an item that is got is at its place
