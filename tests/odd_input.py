@@ -207,6 +207,31 @@ def check_limits(folder):
     assert out != "" and "cycle" in out.splitlines()[-1], (status, out, err)
 
 
+def check_memory(folder):
+    """A text of many circuits, larger than the memory that is allowed; its circuits stand across all places where it is cut."""
+    try:
+        import resource
+    except ImportError:
+        return
+    count = 40000
+    one = open(os.path.join(TOP, "examples", "stepper.circuit"), "rb").read()
+    path = folder.file("many", one * count)
+    most = 40 * 2 ** 20
+    assert os.path.getsize(path) > most
+    program = os.path.join(TOP, "crates", "pass", "out", "pass")
+    for arguments, stdin in (([path], None), (["-"], open(path, "rb"))):
+        done = subprocess.run([program] + arguments, stdin=stdin, capture_output=True,
+                              preexec_fn=lambda: resource.setrlimit(resource.RLIMIT_AS, (most, most)))
+        assert done.returncode == 0 and done.stderr == b"", done.stderr
+        assert done.stdout == b"stepper: passed, margin 13 and 1\n" * count
+    # A fault far behind has its line.
+    lines = one.count(b"\n")
+    status, out, err = run("pass", folder.file("many", one * 9999 + b"circuit\nwire\n"))
+    assert status == 1 and out.count("\n") == 9999 and (":%d: expected a line that begins" % (lines * 9999 + 2)) in err, err
+    status, out, err = run("pass", folder.file("many", b"# nothing\n" * 99999 + b"circuit\ngate 0\nend"))
+    assert status == 1 and out.startswith("turned away by 1 at 0: ") and out.endswith("(line 100001)\n"), out
+
+
 def check_trials(folder):
     """A run that is not made by its number alone is counted apart; numbers go on from 0."""
     skew = folder.file("skew", b"circuit skew\ntimes 10 2 4 3 1\nregister 0 0 30\nend\n")
@@ -227,7 +252,7 @@ def check_trials(folder):
 def main():
     with tempfile.TemporaryDirectory() as path:
         folder = Folder(path)
-        for check in (check_pass, check_files, check_bench, check_arguments, check_long, check_limits, check_trials):
+        for check in (check_pass, check_files, check_bench, check_arguments, check_long, check_limits, check_memory, check_trials):
             check(folder)
     print("bad input is told: %d texts of circuits, %d of delays, files and arguments"
           % (len(CIRCUITS) + len(REFUSED), len(DELAYS) + len(OUTSIDE)))

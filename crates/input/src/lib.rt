@@ -1,6 +1,9 @@
 // What a program reads: files, or standard input.
 #![tactic(auto)]
 
+mod feed;
+
+pub use feed::Feed;
 use std::io::Read;
 use std::rt::Files;
 use std::{fs, io};

@@ -5,12 +5,14 @@ use answer::Refused;
 use as_json::Place;
 use circuit::{Circuit, Numbers};
 use command::{Command, Form};
-use fields::Fault;
+use fields::{Expected, Fault};
+use input::Feed;
 use std::alloc::{AllocError, Global};
 use std::fmt::Write;
+use std::io::Read;
 use std::process::ExitCode;
 use std::rt::Files;
-use std::{fmt, io};
+use std::{fmt, fs, io};
 use text::Draft;
 
 mod command;
@@ -178,42 +180,114 @@ impl<'a> Source<'a> {
     }
 }
 
-// The circuits of one text. What is collected is written out on both ways out of the loop, so a fault breaks out of it
-// with a value, without `?`. The reader counts lines from 1 in what is handed to it, so those before are added here.
-fn pass_text(
+// What the lines at hand begin with.
+#[derive(Clone, Copy)]
+enum Found {
+    // A circuit, which was answered for, of so many bytes and lines.
+    Circuit {
+        bytes: usize,
+        lines: usize,
+        outcome: Outcome,
+    },
+    // A circuit that goes on behind them.
+    Cut,
+    // No circuit.
+    Nothing,
+}
+
+// Looks at the lines at hand, before which there were so many others. The reader counts lines from 1 in what is handed to
+// it, so those before are added here.
+fn look(
+    heap: Global,
+    form: Form,
+    file: &str,
+    lines: &[u8],
+    before: usize,
+    out: &mut String,
+) -> anyhow::Result<Result<Found, Fault>> {
+    let read = match text::read(heap, lines) {
+        Ok(Some(read)) => read,
+        Ok(None) => return Ok(Ok(Found::Nothing)),
+        Err(Fault { line, expected }) => {
+            let line = line.saturating_add(before);
+            return Ok(Err(Fault { line, expected }));
+        }
+    };
+    let source = Source {
+        file,
+        draft: &read.draft,
+        text: lines,
+        before,
+    };
+    let outcome = source.tell(heap, form, out)?;
+    Ok(Ok(Found::Circuit {
+        bytes: lines.len().saturating_sub(read.rest.text.len()),
+        lines: read.rest.number.saturating_sub(1),
+        outcome,
+    }))
+}
+
+// How many lines end in a text.
+fn newlines(text: &[u8]) -> usize {
+    text.iter().filter(|b| **b == b'\n').count()
+}
+
+// The circuits of a text, one after another. No more of it is kept than the largest of them takes, some times over.
+fn pass_text<R: Read + Drop>(
     rt: &(impl Print + AllocGlobal),
     form: Form,
     file: &str,
-    bytes: &[u8],
+    feed: &mut Feed<R>,
+    out: &mut String,
 ) -> anyhow::Result<Result<Outcome, Flaw>> {
-    let heap = rt.alloc();
-    let mut out = String::new(heap);
-    let mut rest = bytes;
     let mut before: usize = 0;
     let mut worst = None;
-    let outcome = loop {
-        let read = match text::read(heap, rest) {
-            Ok(Some(read)) => read,
-            Ok(None) => break worst.ok_or(Flaw::NoCircuit),
-            Err(Fault { line, expected }) => {
-                let line = line.saturating_add(before);
-                break Err(Flaw::Fault(Fault { line, expected }));
+    for _ in 0..u64::MAX {
+        let lines = feed.lines();
+        let found = match look(rt.alloc(), form, file, lines, before, out)? {
+            Ok(found) => found,
+            Err(fault) if fault.expected == Expected::End && !feed.ended() => Found::Cut,
+            Err(fault) => return Ok(Err(Flaw::Fault(fault))),
+        };
+        match found {
+            Found::Circuit {
+                bytes,
+                lines,
+                outcome,
+            } => {
+                worst = worst.max(Some(outcome));
+                before = before.saturating_add(lines);
+                feed.skip(bytes);
+                if out.len() > COLLECTED {
+                    flush(rt, out)?;
+                }
+                continue;
             }
-        };
-        let source = Source {
-            file,
-            draft: &read.draft,
-            text: rest,
-            before,
-        };
-        let outcome = source.tell(heap, form, &mut out)?;
-        worst = worst.max(Some(outcome));
-        before = before.saturating_add(read.rest.number).saturating_sub(1);
-        rest = read.rest.text;
-        if out.len() > COLLECTED {
-            flush(rt, &mut out)?;
+            Found::Nothing if feed.ended() => break,
+            Found::Nothing => {
+                before = before.saturating_add(newlines(lines));
+                let all = lines.len();
+                feed.skip(all);
+            }
+            Found::Cut => {}
         }
-    };
+        if let Err(e) = feed.more() {
+            return Ok(Err(Flaw::Unreadable(e)));
+        }
+    }
+    Ok(worst.ok_or(Flaw::NoCircuit))
+}
+
+// The circuits of a reader.
+fn pass_reader<R: Read + Drop>(
+    rt: &(impl Print + AllocGlobal),
+    form: Form,
+    path: &str,
+    reader: R,
+) -> anyhow::Result<Result<Outcome, Flaw>> {
+    let mut feed = Feed::new(rt.alloc(), reader);
+    let mut out = String::new(rt.alloc());
+    let outcome = pass_text(rt, form, path, &mut feed, &mut out)?;
     flush(rt, &mut out)?;
     Ok(outcome)
 }
@@ -223,9 +297,13 @@ fn pass_file(
     form: Form,
     path: &str,
 ) -> anyhow::Result<Outcome> {
-    let outcome = match input::read_all(rt, path) {
-        Ok(bytes) => pass_text(rt, form, path, &bytes)?,
-        Err(e) => Err(Flaw::Unreadable(e)),
+    let outcome = if path == "-" {
+        pass_reader(rt, form, path, rt.reader())?
+    } else {
+        match fs::open(rt, path) {
+            Ok(file) => pass_reader(rt, form, path, file)?,
+            Err(e) => Err(Flaw::Unreadable(e)),
+        }
     };
     match outcome {
         Ok(outcome) => Ok(outcome),
