@@ -8,6 +8,9 @@ use std::io::Read;
 // As many bytes are read at once.
 const PIECE: usize = 65_536;
 
+// At least as many are kept, where the text has them, so that a circuit is seldom read twice.
+const LEAST: usize = 1_048_576;
+
 // What was read of a text and is still needed: `kept`, from `from` on; and whether the text has ended.
 #[derive(Drop)]
 pub struct Feed<R: Drop> {
@@ -67,12 +70,12 @@ impl<R: Read + Drop> Feed<R> {
         self.from = self.from.saturating_add(n).min(self.kept.len());
     }
 
-    // Reads on, by as much as is needed already or a piece, up to the text's end.
+    // Reads on, by as much as is needed already, up to the text's end.
     pub fn more(&mut self) -> io::Result<()>
         ensures { IfOk result (λ _. (self.new.from ≡ 0) × ((rest : List ℕ) × (vec_items self.new.kept ≡ drop self.old.from (vec_items self.old.kept) ++ rest))) }
     {
         let mut kept = Vec::from_slice(self.heap, self.needed())?;
-        let enough = kept.len().saturating_mul(2).max(PIECE);
+        let enough = kept.len().saturating_mul(2).max(LEAST);
         let mut piece = [0; PIECE];
         for _ in 0..u64::MAX {
             if kept.len() >= enough {
