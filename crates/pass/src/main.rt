@@ -173,7 +173,7 @@ impl<'a> Source<'a> {
         }
         if form == Form::Paths {
             if let Ok(circuit) = self.circuit() {
-                report::put(out, circuit)?;
+                path_table::put(out, circuit)?;
             }
         }
         Ok(Outcome::of(said.margins.is_some()))

@@ -40,8 +40,8 @@ fn named(circuit: Circuit<'_>, room: &mut [u32]) -> Option<Endpoint> {
     Some(Endpoint { edge, register })
 }
 
-// The report on a register. The room has a path's length.
-fn put_report(
+// The table of a register's path. The room has a path's length.
+fn put_table(
     out: &mut String,
     a: Arrivals<'_, '_>,
     endpoint: Endpoint,
@@ -63,7 +63,7 @@ fn put_report(
     Ok(())
 }
 
-// Reports on a circuit: on the register that its word names, if it names one; then on the register with the smallest setup
+// Tables of a circuit's paths: of the register that its word names, if it names one; then on the register with the smallest setup
 // margin and on that with the smallest hold margin, unless it is the one named.
 pub fn put(out: &mut String, circuit: Circuit<'_>) -> fmt::Result {
     let mut latest = [0; MOST_SIGNALS];
@@ -75,7 +75,7 @@ pub fn put(out: &mut String, circuit: Circuit<'_>) -> fmt::Result {
     let mut room = [0; LONGEST_PATH];
     let named = named(circuit, &mut room);
     if let Some(endpoint) = named {
-        put_report(out, a, endpoint, &mut room)?;
+        put_table(out, a, endpoint, &mut room)?;
     }
     let smallest = slack::smallest(circuit);
     let setup = Endpoint {
@@ -88,7 +88,7 @@ pub fn put(out: &mut String, circuit: Circuit<'_>) -> fmt::Result {
     };
     for endpoint in [setup, hold] {
         if named != Some(endpoint) {
-            put_report(out, a, endpoint, &mut room)?;
+            put_table(out, a, endpoint, &mut room)?;
         }
     }
     Ok(())

@@ -1,4 +1,4 @@
-// The lines of a report.
+// The lines of a table.
 use crate::rows::step;
 use arrival::{Arrivals, Edge};
 use circuit::Register;

@@ -1,7 +1,7 @@
 // A step of a path, looked up.
 ghost use Rattle.std.specs.Prelude.{◌≤◌, ◌<◌, ◌⊎◌, MatchOption};
 ghost use Rattle.circuit.specs.Checked.{registers_of, signals_of};
-ghost use Rattle.report.specs.Row.{IsStep};
+ghost use Rattle.path_table.specs.Row.{IsStep};
 
 use crate::shown::Step;
 use arrival::{Arrivals, Edge};
