@@ -115,11 +115,16 @@ impl Command {
         if task.circuit.as_str() == "-" && task.delays.as_str() == "-" {
             return Some("only one of the two files can be standard input");
         }
+        if let Some(vcd) = &task.vcd {
+            if vcd.as_str() == task.circuit.as_str() || vcd.as_str() == task.delays.as_str() {
+                return Some("--vcd would overwrite what is read");
+            }
+        }
         None
     }
 
-    // `--help` goes before `--version`, and both go before all that is not an option. What cannot be read is told, and
-    // nothing after it is read.
+    // `--help` goes before `--version`, and both go before all that can be read. What cannot be read is told, and nothing
+    // after it is read.
     pub(crate) fn read(rt: &HostRuntime) -> anyhow::Result<Command> {
         let mut read = Arguments::new(rt);
         let mut awaited = None;
@@ -140,7 +145,7 @@ impl Command {
                 "--trials" => awaited = Some(Awaited::Trials),
                 unknown if is_option(unknown) => {
                     eprintln!(rt; "bench: unknown option {unknown}")?;
-                    return Ok(read.asked.unwrap_or(Command::Usage));
+                    return Ok(Command::Usage);
                 }
                 _ => read.names.push(arg)?,
             }

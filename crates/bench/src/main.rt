@@ -7,7 +7,7 @@ use clocks::Bench;
 use command::{Command, Task};
 use given::{Flaw, Source, read_circuit, read_script};
 use going::{Halt, print_run, try_runs};
-use outcome::Outcome;
+use outcome::{Outcome, TROUBLE};
 use report::{Ended, Why};
 use script::Script;
 use std::process::ExitCode;
@@ -47,8 +47,9 @@ else that the file DELAYS tells, and looks at every register after every cycle.
   --help        print this and end
   --version     print the version and end
 
-Status 0 if every register was as drawn after every cycle; else 1. A file that cannot be read or written,
-or that has a fault in its text, is an error: it is told on standard error, and the status is 1 in any case.";
+Status 0 if every register was as drawn after every cycle, and 1 if one was not or the circuit was turned
+away. A file that cannot be read or written, or that has a fault in its text, is an error: it is told on
+standard error, and the status is 2 in any case.";
 
 const VERSION: &str = "bench (muleminute) 0.1.0";
 
@@ -160,7 +161,7 @@ fn run(rt: &HostRuntime) -> anyhow::Result<ExitCode> {
         }
         Command::Usage => {
             eprintln!(rt; "{USAGE}")?;
-            Ok(ExitCode::FAILURE)
+            Ok(ExitCode::from(TROUBLE))
         }
         Command::Bench(task) => Ok(bench(rt, &task)?.status(task.exit_zero)),
     }
@@ -169,6 +170,6 @@ fn run(rt: &HostRuntime) -> anyhow::Result<ExitCode> {
 fn main(rt: HostRuntime) -> ExitCode {
     run(&rt).unwrap_or_else(|e| {
         let _ = eprintln!(rt; "bench: {e}");
-        ExitCode::FAILURE
+        ExitCode::from(TROUBLE)
     })
 }

@@ -1,6 +1,9 @@
 // What was found, and the status that goes with it.
 use std::process::ExitCode;
 
+// The status where something could not be done.
+pub(crate) const TROUBLE: u8 = 2;
+
 // From best to worst.
 #[derive(Clone, Copy, PartialEq, Debug)]
 pub(crate) enum Outcome {
@@ -19,7 +22,8 @@ impl Outcome {
         match self {
             Outcome::AsDrawn => ExitCode::SUCCESS,
             Outcome::NotAsDrawn | Outcome::TurnedAway if exit_zero => ExitCode::SUCCESS,
-            _ => ExitCode::FAILURE,
+            Outcome::NotAsDrawn | Outcome::TurnedAway => ExitCode::FAILURE,
+            Outcome::Unsound => ExitCode::from(TROUBLE),
         }
     }
 }

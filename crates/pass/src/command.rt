@@ -24,6 +24,8 @@ pub(crate) enum Form {
     Paths,
     // Its shortest period.
     Period,
+    // All that is found, as a report.
+    Report,
     // All that is found, as JSON.
     Json,
 }
@@ -35,6 +37,7 @@ impl Form {
             "--json" => Some(Form::Json),
             "--paths" => Some(Form::Paths),
             "--period" => Some(Form::Period),
+            "--report" => Some(Form::Report),
             _ => None,
         }
     }
@@ -45,7 +48,7 @@ fn is_option(arg: &str) -> bool {
 }
 
 impl Command {
-    // `--help` goes before `--version`, and both go before all that is not an option. An unknown option, or one that another
+    // `--help` goes before `--version`, and both go before all that can be read. An unknown option, or one that another
     // excludes, is told, and nothing after it is read.
     pub(crate) fn read(rt: &(impl Env + AllocGlobal + Eprint)) -> anyhow::Result<Command> {
         let mut asked = None;
@@ -60,11 +63,11 @@ impl Command {
                 option if is_option(option) => {
                     let Some(told) = Form::of(option) else {
                         eprintln!(rt; "pass: unknown option {option}")?;
-                        return Ok(asked.unwrap_or(Command::Usage));
+                        return Ok(Command::Usage);
                     };
                     if form.is_some_and(|form| form != told) {
-                        eprintln!(rt; "pass: --json, --paths and --period exclude one another")?;
-                        return Ok(asked.unwrap_or(Command::Usage));
+                        eprintln!(rt; "pass: --json, --paths, --period and --report exclude one another")?;
+                        return Ok(Command::Usage);
                     }
                     form = Some(told);
                 }

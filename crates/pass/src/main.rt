@@ -18,7 +18,7 @@ use text::Draft;
 mod command;
 
 const USAGE: &str =
-    "usage: pass [--json | --paths | --period] [--exit-zero] [--help] [--version] FILE...";
+    "usage: pass [--json | --paths | --period | --report] [--exit-zero] [--help] [--version] FILE...";
 
 const HELP: &str =
     "Passes the circuits of each FILE, in order, or says what stands in the way: a line for each.
@@ -42,15 +42,20 @@ const HELP: &str =
                 it names, and those to the registers with the smallest margin of each kind
   --period      print for each circuit the shortest period with which no input comes too
                 late, and the frequency of it: shortest period 17, 58823.529 MHz
+  --report      print for each circuit a text that stands for itself: the circuit, and all that is
+                found of it, which docs/REPORT.md describes
   --exit-zero   end with status 0 whatever is said of the circuits
   --help        print this and end
   --version     print the version and end
 
 Status 0 if every circuit is passed, or with --period if none is turned away; else 1. A file
 that cannot be read, that has a fault in its text, or that has no circuit is an error: it is
-told on standard error, and the status is 1 in any case.";
+told on standard error, and the status is 2 in any case.";
 
 const VERSION: &str = "pass (muleminute) 0.1.0";
+
+// The status where something could not be done.
+const TROUBLE: u8 = 2;
 
 // What is said is written out once it has more bytes than this.
 const COLLECTED: usize = 60_000;
@@ -79,7 +84,8 @@ impl Outcome {
         match self {
             Outcome::Passed => ExitCode::SUCCESS,
             Outcome::NotPassed if exit_zero => ExitCode::SUCCESS,
-            _ => ExitCode::FAILURE,
+            Outcome::NotPassed => ExitCode::FAILURE,
+            Outcome::Unsound => ExitCode::from(TROUBLE),
         }
     }
 }
@@ -152,6 +158,18 @@ impl<'a> Source<'a> {
         }
     }
 
+    // The report on it; or, where it is turned away, the line that says so as a comment.
+    fn report(self, heap: Global, line: &str, out: &mut String) -> anyhow::Result<()> {
+        match self.circuit() {
+            Ok(circuit) => {
+                let report = report::write(heap, &self.draft.name, circuit)?;
+                out.push_str(&report)?;
+            }
+            Err(_) => write!(out, "# {line}")?,
+        }
+        Ok(())
+    }
+
     // What is told of it, and what was found.
     fn tell(self, heap: Global, form: Form, out: &mut String) -> anyhow::Result<Outcome> {
         let Source {
@@ -166,10 +184,10 @@ impl<'a> Source<'a> {
             return Ok(Outcome::of(paced.period.is_some()));
         }
         let said = answer::answer(heap, draft, text, before)?;
-        if form == Form::Json {
-            writeln!(out, "{}", self.json(heap)?)?;
-        } else {
-            out.push_str(&said.line)?;
+        match form {
+            Form::Json => writeln!(out, "{}", self.json(heap)?)?,
+            Form::Report => self.report(heap, &said.line, out)?,
+            Form::Words | Form::Paths | Form::Period => out.push_str(&said.line)?,
         }
         if form == Form::Paths {
             if let Ok(circuit) = self.circuit() {
@@ -326,7 +344,7 @@ fn run(rt: &HostRuntime) -> anyhow::Result<ExitCode> {
         }
         Command::Usage => {
             eprintln!(rt; "{USAGE}")?;
-            Ok(ExitCode::FAILURE)
+            Ok(ExitCode::from(TROUBLE))
         }
         Command::Pass {
             files,
@@ -345,6 +363,6 @@ fn run(rt: &HostRuntime) -> anyhow::Result<ExitCode> {
 fn main(rt: HostRuntime) -> ExitCode {
     run(&rt).unwrap_or_else(|e| {
         let _ = eprintln!(rt; "pass: {e}");
-        ExitCode::FAILURE
+        ExitCode::from(TROUBLE)
     })
 }
