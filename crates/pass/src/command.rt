@@ -66,7 +66,9 @@ impl Command {
                         return Ok(Command::Usage);
                     };
                     if form.is_some_and(|form| form != told) {
-                        eprintln!(rt; "pass: --json, --paths, --period and --report exclude one another")?;
+                        eprintln!(rt;
+                            "pass: --json, --paths, --period and --report exclude one another"
+                        )?;
                         return Ok(Command::Usage);
                     }
                     form = Some(told);
