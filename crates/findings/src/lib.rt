@@ -1,0 +1,65 @@
+// The claims of a report on a circuit: the word and its path, the margins, and the shortest period.
+#![tactic(auto)]
+
+ghost use Rattle.std.specs.Prelude.{◌≡◌, ◌+◌, ◌*◌, ◌<◌, ◌≤◌, ◌++◌, length, IfOk, vec_items};
+ghost use Rattle.circuit.specs.Checked.{of};
+ghost use Rattle.promise.specs.Machine.{machine_in};
+ghost use Rattle.signoff.specs.Verdict.{Says};
+ghost use Rattle.slack.specs.Margin.{AreSmallest};
+ghost use Rattle.findings.specs.Findings.{path_claims, SmallMiss, sums_of, word_of, SmallWord, word_claims, margin_claims, smallest_of, AreFindings};
+
+use circuit::{Circuit, MOST_GATES, MOST_REGISTERS};
+use claim::{Claim, Sums, Worst};
+use signoff::{Miss, Verdict};
+use slack::Smallest;
+use std::alloc::{AllocError, Global};
+
+// As many numbers as a path can have: a register, and two for each gate.
+const LONGEST_PATH: usize = 1 + 2 * MOST_GATES;
+
+// As many margins as a circuit can have.
+const MOST_MARGINS: usize = 2 * MOST_REGISTERS;
+
+// The word on a circuit, with the path in the room that is lent.
+fn word(circuit: Circuit<'_>, room: &mut [u32]) -> Verdict
+    requires { LONGEST_PATH ≤ length room.old }
+    ensures { of circuit.entry Says room.old room.new result }
+{
+    let Circuit {
+        gates,
+        registers,
+        times,
+    } = circuit;
+    // There is room for any circuit's path.
+    let Ok(verdict) = signoff::pass(gates, registers, times, room) else {
+        unreachable!()
+    };
+    verdict
+}
+
+// The two sums of a register that is named.
+fn sums(miss: Miss) -> Sums
+    requires { SmallMiss miss }
+    ensures { result ≡ sums_of miss }
+{
+    Sums {
+        register: miss.register as i64,
+        arrival: miss.arrival as i64,
+        limit: miss.limit as i64,
+    }
+}
+
+// A path through so many gates, in the room that begins with it. Inputs are counted from 0 there.
+fn put_path(claims: &mut Vec<Claim>, room: &[u32], gates: usize) -> Result<(), AllocError>
+    requires { 2 * gates < length room.now }
+    ensures { IfOk result (λ _. vec_items claims.new ≡ vec_items claims.old ++ path_claims gates room.now) }
+{
+    claims.push(Claim::From(i64::from(room[0])))?;
+    for k in 0..gates {
+        claims.push(Claim::Through {
+            signal: i64::from(room[2 * k + 1]),
+            input: i64::from(room[2 * k + 2]) + 1,
+        })?;
+    }
+    Ok(())
+}
