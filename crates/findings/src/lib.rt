@@ -1,12 +1,12 @@
 // The claims of a report on a circuit: the word and its path, the margins, and the shortest period.
 #![tactic(auto)]
 
-ghost use Rattle.std.specs.Prelude.{◌≡◌, ◌+◌, ◌*◌, ◌<◌, ◌≤◌, ◌++◌, length, IfOk, vec_items};
+ghost use Rattle.std.specs.Prelude.{◌≡◌, ◌+◌, ◌*◌, ◌^◌, ◌<◌, ◌≤◌, ◌++◌, length, IfOk, vec_items};
 ghost use Rattle.circuit.specs.Checked.{of};
 ghost use Rattle.promise.specs.Machine.{machine_in};
 ghost use Rattle.signoff.specs.Verdict.{Says};
 ghost use Rattle.slack.specs.Margin.{AreSmallest};
-ghost use Rattle.findings.specs.Findings.{path_claims, SmallMiss, sums_of, word_of, SmallWord, word_claims, margin_claims, smallest_of, AreFindings};
+ghost use Rattle.findings.specs.Findings.{gate_claim, path_claims, SmallMiss, sums_of, word_of, SmallWord, word_claims, margin_claims, worst_of, smallest_of, AreFindings};
 
 use circuit::{Circuit, MOST_GATES, MOST_REGISTERS};
 use claim::{Claim, Sums, Worst};
@@ -49,17 +49,64 @@ fn sums(miss: Miss) -> Sums
     }
 }
 
-// A path through so many gates, in the room that begins with it. Inputs are counted from 0 there.
+// Gate `k` of the path that a room begins with. Inputs are counted from 0 there.
+fn through(room: &[u32], k: usize) -> Claim
+    requires { 2 * k + 2 < length room.now }
+    ensures { result ≡ gate_claim room.now k }
+{
+    Claim::Through {
+        signal: i64::from(room[2 * k + 1]),
+        input: i64::from(room[2 * k + 2]) + 1,
+    }
+}
+
+// A path through so many gates, in the room that begins with it.
 fn put_path(claims: &mut Vec<Claim>, room: &[u32], gates: usize) -> Result<(), AllocError>
     requires { 2 * gates < length room.now }
     ensures { IfOk result (λ _. vec_items claims.new ≡ vec_items claims.old ++ path_claims gates room.now) }
 {
     claims.push(Claim::From(i64::from(room[0])))?;
     for k in 0..gates {
-        claims.push(Claim::Through {
-            signal: i64::from(room[2 * k + 1]),
-            input: i64::from(room[2 * k + 2]) + 1,
+        claims.push(through(room, k))?;
+    }
+    Ok(())
+}
+
+// Both margins of every register.
+fn put_margins(claims: &mut Vec<Claim>, circuit: Circuit<'_>) -> Result<(), AllocError>
+    ensures { IfOk result (λ _. vec_items claims.new ≡ vec_items claims.old ++ margin_claims (of circuit.entry machine_in)) }
+{
+    let mut room = [0; MOST_MARGINS];
+    let Ok(_) = slack::margins(circuit, &mut room) else {
+        unreachable!()
+    };
+    for r in 0..circuit.register_count() {
+        claims.push(Claim::Margins {
+            setup: room[2 * r],
+            hold: room[2 * r + 1],
         })?;
     }
     Ok(())
+}
+
+// The smallest margin of one kind.
+fn worst(worst: slack::Worst) -> Worst
+    requires { worst.register < 2 ^ 63 }
+    ensures { result ≡ worst_of worst }
+{
+    Worst {
+        register: worst.register as i64,
+        margin: worst.margin,
+    }
+}
+
+// The smallest margins of a circuit.
+fn smallest(circuit: Circuit<'_>) -> Claim
+    ensures { (s : Smallest) × AreSmallest (of circuit.entry machine_in) s × (result ≡ smallest_of s) }
+{
+    let smallest = slack::smallest(circuit);
+    Claim::Smallest {
+        setup: worst(smallest.setup),
+        hold: worst(smallest.hold),
+    }
 }
