@@ -1,5 +1,5 @@
 -- A circuit that was looked at is not refused, and the longest path has room.
-use Rattle.std.proofs.Common.{◌≡◌, ℕ, ◌+◌, ◌-◌, ◌*◌, ◌<◌, ◌≤◌, true, false, List, [], ◌∷◌, length, Ok, Err, Result, inl, inr, arith}
+use Rattle.std.proofs.Common.{◌≡◌, ℕ, ◌+◌, ◌-◌, ◌*◌, ◌/◌, ◌<◌, ◌≤◌, true, false, List, [], ◌∷◌, length, Ok, Err, Result, inl, inr, arith}
 use Rattle.circuit.specs.Checked.{of, registers_of, gates_of}
 use Rattle.circuit.specs.Circuit.{Circuit, gate, Sound}
 use Rattle.circuit.specs.Lent.{register_count, gate_count, signal_count, drawn}
@@ -8,13 +8,18 @@ use Rattle.circuit.specs.Whole.{Whole}
 use Rattle.circuit.specs.declared.circuit.Circuit as checked
 use Rattle.circuit.specs.declared.refusal.Refusal.{Refusal}
 use Rattle.circuit.specs.declared.refusal.Refusal.TheVariants.{GateNumbers, RegisterNumbers, TimeNumbers, RegisterCount, GateCount, TooLarge, BadGate, BadDelay, BadRegister, BadOutput, NoSignal, NoRoom, OutOfBounds, NoPeriod, NoMoment}
-use Rattle.circuit.proofs.Known.{sound_of, taken_of, whole_of}
+use Rattle.circuit.proofs.Known.{sound_of, taken_of, whole_of, registers_small, times_small}
 use Rattle.arrival.specs.declared.edge.Edge.{Edge}
-use Rattle.path.specs.Path.{Steps, Leads, PathRefused, written}
+use Rattle.arrival.specs.declared.edge.Edge.TheVariants.{Late, Early}
+use Rattle.arrival.proofs.Turns.{time_small}
+use Rattle.path.specs.Path.{Steps, Leads, PathTold, PathRefused, written}
 use Rattle.path.proofs.Writing.{written_length}
 use Rattle.circuit.proofs.LentLaws.{gates_in_length}
-use Rattle.signoff.specs.Verdict.{Short, Answers}
+use Rattle.signoff.specs.Verdict.{Short, Says, Answers}
+use Rattle.signoff.specs.declared.verdict.Miss.{Miss}
 use Rattle.signoff.specs.declared.verdict.Verdict.{Verdict}
+use Rattle.signoff.specs.declared.verdict.Verdict.TheVariants as verdict
+use Rattle.findings.specs.Findings.{SmallMiss, SmallWord}
 
 -- no case of a refusal applies to numbers that are a circuit
 none_applies : (g r t : List ℕ) → Whole g r t → (e : Refusal) → Applies g r t e → ⊥
@@ -70,3 +75,25 @@ module _ (c : checked.Circuit) where
   answered before after (Err x) e room (inl first, same) is = none_applies c.gates.now c.registers.now c.times.now (whole_of c) x first.applies
   answered before after (Err x) e room (inr (whole, inl (r, first, refused)), same) is = refused_not _ _ before x room (taken_of c r first.0) refused
   answered before after (Err x) e room (inr (whole, inr (r, first, refused)), same) is = refused_not _ _ before x room (taken_of c r first.1.0) refused
+
+  told_small : (e : Edge) (signal len : ℕ) (before after : List ℕ) → signal < signal_count c.gates.now c.registers.now →
+      PathTold e c.gates.now c.registers.now c.times.now signal len before after → 2 * (len / 2) < 32769
+  told_small e signal len before after inside (i, p, told, is, begins) =
+      let l = path_short i p signal told.leads inside in
+      omega arith
+
+  -- the sums of a verdict are small
+  pub small_word : (before after : List ℕ) (v : Verdict) → of c Says before after v → SmallWord v
+  small_word before after verdict.Passed says = tt
+  small_word before after (verdict.TooLate x) (first, sums, told) =
+      let r = x.register in
+      let inside = taken_of c r first.0 in
+      let time = time_small Late c.gates.now c.registers.now c.times.now c.few c.small (sound_of c) _ inside in
+      let some = c.some.1 in
+      (omega arith, omega (arith, sums.0, times_small c 3), omega (arith, sums.1, times_small c 0, registers_small c (3 * r + 1)), told_small Late _ _ before after inside told)
+  small_word before after (verdict.TooEarly x) (first, sums, told) =
+      let r = x.register in
+      let inside = taken_of c r first.1.0 in
+      let time = time_small Early c.gates.now c.registers.now c.times.now c.few c.small (sound_of c) _ inside in
+      let some = c.some.1 in
+      (omega (arith, first.1.0), omega (arith, sums.0), omega (arith, sums.1, times_small c 4, registers_small c (3 * r + 2)), told_small Early _ _ before after inside told)

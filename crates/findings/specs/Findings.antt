@@ -30,9 +30,9 @@ path_claims gates room = claim.From (pos (slice_index room 0)) ∷ map (gate_cla
 abbrev pub sums_of : Miss → Sums
 sums_of x = record { register = pos x.register; arrival = pos x.arrival; limit = pos x.limit }
 
--- these are small
+-- these fit, and no path is longer than the longest
 abbrev pub SmallMiss : Miss → Type 0
-SmallMiss x = (x.register < 2 ^ 63) × (x.arrival < 2 ^ 63) × (x.limit < 2 ^ 63)
+SmallMiss x = (x.register < 2 ^ 63) × (x.arrival < 2 ^ 63) × (x.limit < 2 ^ 63) × (2 * (x.path / 2) < 32769)
 
 abbrev pub SmallWord : Verdict → Type 0
 SmallWord verdict.Passed = Unit {0}
@@ -40,11 +40,6 @@ SmallWord (verdict.TooLate x) = SmallMiss x
 SmallWord (verdict.TooEarly x) = SmallMiss x
 
 -- the word, and where it is not passed the path in the room that it left
-abbrev pub word_of : Verdict → Claim
-word_of verdict.Passed = claim.Passed
-word_of (verdict.TooLate x) = claim.TooLate (sums_of x)
-word_of (verdict.TooEarly x) = claim.TooEarly (sums_of x)
-
 abbrev pub word_claims : Verdict → (after : List ℕ) → List Claim
 word_claims verdict.Passed after = claim.Passed ∷ []
 word_claims (verdict.TooLate x) after = claim.TooLate (sums_of x) ∷ path_claims (x.path / 2) after

@@ -1,12 +1,13 @@
 // The claims of a report on a circuit: the word and its path, the margins, and the shortest period.
 #![tactic(auto)]
 
-ghost use Rattle.std.specs.Prelude.{◌≡◌, ◌+◌, ◌*◌, ◌^◌, ◌<◌, ◌≤◌, ◌++◌, length, IfOk, vec_items};
+ghost use Rattle.std.specs.Prelude.{◌≡◌, ℕ, ◌+◌, ◌*◌, ◌^◌, ◌<◌, ◌≤◌, ◌++◌, length, IfOk, pos, vec_items};
 ghost use Rattle.circuit.specs.Checked.{of};
 ghost use Rattle.promise.specs.Machine.{machine_in};
 ghost use Rattle.signoff.specs.Verdict.{Says};
 ghost use Rattle.slack.specs.Margin.{AreSmallest};
-ghost use Rattle.findings.specs.Findings.{gate_claim, path_claims, SmallMiss, sums_of, word_of, SmallWord, word_claims, margin_claims, worst_of, smallest_of, AreFindings};
+ghost use Rattle.slack.specs.Period.{IsShortest};
+ghost use Rattle.findings.specs.Findings.{gate_claim, path_claims, SmallMiss, sums_of, SmallWord, word_claims, margin_claims, worst_of, smallest_of, AreFindings};
 
 use circuit::{Circuit, MOST_GATES, MOST_REGISTERS};
 use claim::{Claim, Sums, Worst};
@@ -23,7 +24,8 @@ const MOST_MARGINS: usize = 2 * MOST_REGISTERS;
 // The word on a circuit, with the path in the room that is lent.
 fn word(circuit: Circuit<'_>, room: &mut [u32]) -> Verdict
     requires { LONGEST_PATH ≤ length room.old }
-    ensures { of circuit.entry Says room.old room.new result }
+    ensures says { of circuit.entry Says room.old room.new result }
+    ensures small { SmallWord result }
 {
     let Circuit {
         gates,
@@ -72,6 +74,21 @@ fn put_path(claims: &mut Vec<Claim>, room: &[u32], gates: usize) -> Result<(), A
     Ok(())
 }
 
+// The word, and where it is not passed the path in the room.
+fn put_word(claims: &mut Vec<Claim>, verdict: Verdict, room: &[u32]) -> Result<(), AllocError>
+    requires small { SmallWord verdict }
+    requires room { LONGEST_PATH ≤ length room.now }
+    ensures { IfOk result (λ _. vec_items claims.new ≡ vec_items claims.old ++ word_claims verdict room.now) }
+{
+    let (word, miss) = match verdict {
+        Verdict::Passed => return Ok(claims.push(Claim::Passed)?),
+        Verdict::TooLate(miss) => (Claim::TooLate(sums(miss)), miss),
+        Verdict::TooEarly(miss) => (Claim::TooEarly(sums(miss)), miss),
+    };
+    claims.push(word)?;
+    put_path(claims, room, miss.path / 2)
+}
+
 // Both margins of every register.
 fn put_margins(claims: &mut Vec<Claim>, circuit: Circuit<'_>) -> Result<(), AllocError>
     ensures { IfOk result (λ _. vec_items claims.new ≡ vec_items claims.old ++ margin_claims (of circuit.entry machine_in)) }
@@ -109,4 +126,26 @@ fn smallest(circuit: Circuit<'_>) -> Claim
         setup: worst(smallest.setup),
         hold: worst(smallest.hold),
     }
+}
+
+// The shortest period of a circuit.
+fn period(circuit: Circuit<'_>) -> Claim
+    ensures { (p : ℕ) × IsShortest (of circuit.entry machine_in) p × (result ≡ Claim.Period (pos p)) }
+{
+    Claim::Period(slack::shortest_period(circuit) as i64)
+}
+
+// What is found of a circuit: its word, and where it is not passed the path by which that is so; the margins of every
+// register, the smallest of each kind, and the shortest period.
+pub fn findings(heap: Global, circuit: Circuit<'_>) -> Result<Vec<Claim>, AllocError>
+    ensures { IfOk result (λ v. AreFindings circuit.entry (vec_items v)) }
+{
+    let mut room = [0; LONGEST_PATH];
+    let verdict = word(circuit, &mut room);
+    let mut claims = Vec::new(heap);
+    put_word(&mut claims, verdict, &room)?;
+    put_margins(&mut claims, circuit)?;
+    claims.push(smallest(circuit))?;
+    claims.push(period(circuit))?;
+    Ok(claims)
 }
