@@ -14,3 +14,8 @@ one_more f k old now is = rw (is, map-range_with_len_more f 0 k k (omega arith))
 -- the next gate of a path
 pub gate_more : (room : List ℕ) (k : ℕ) (old now : List Claim) → now ≡ old ++ path_claims k room → now ++ (gate_claim room k ∷ []) ≡ old ++ path_claims (k + 1) room
 gate_more room k old now is = rw (is, map-range_with_len_more (gate_claim room) 0 k k (omega arith)) (append_assoc old _ _)
+
+-- the word, the margins, the smallest and the period
+pub all_put : (w m a b d e f : List Claim) (s p s' p' : Claim) → a ≡ [] → b ≡ a ++ w → d ≡ b ++ m → e ≡ d ++ (s ∷ []) → f ≡ e ++ (p ∷ []) → s ≡ s' → p ≡ p' →
+    f ≡ w ++ m ++ (s' ∷ p' ∷ [])
+all_put w m a b d e f s p s' p' none word margins smallest period same_s same_p = rw (period, smallest, margins, word, none, same_s, same_p) (append_assoc (w ++ m) _ _)

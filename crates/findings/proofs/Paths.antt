@@ -1,5 +1,5 @@
 -- A circuit that was looked at is not refused, and the longest path has room.
-use Rattle.std.proofs.Common.{◌≡◌, ℕ, ◌+◌, ◌-◌, ◌*◌, ◌/◌, ◌<◌, ◌≤◌, true, false, List, [], ◌∷◌, length, Ok, Err, Result, inl, inr, arith}
+use Rattle.std.proofs.Common.{◌≡◌, ℕ, ◌+◌, ◌-◌, ◌*◌, ◌/◌, ◌^◌, ◌<◌, ◌≤◌, true, false, List, [], ◌∷◌, length, Ok, Err, Result, inl, inr, arith}
 use Rattle.circuit.specs.Checked.{of, registers_of, gates_of}
 use Rattle.circuit.specs.Circuit.{Circuit, gate, Sound}
 use Rattle.circuit.specs.Lent.{register_count, gate_count, signal_count, drawn}
@@ -15,6 +15,8 @@ use Rattle.arrival.proofs.Turns.{time_small}
 use Rattle.path.specs.Path.{Steps, Leads, PathTold, PathRefused, written}
 use Rattle.path.proofs.Writing.{written_length}
 use Rattle.circuit.proofs.LentLaws.{gates_in_length}
+use Rattle.promise.specs.Machine.{machine_in}
+use Rattle.slack.specs.Period.{IsShortest}
 use Rattle.signoff.specs.Verdict.{Short, Says, Answers}
 use Rattle.signoff.specs.declared.verdict.Miss.{Miss}
 use Rattle.signoff.specs.declared.verdict.Verdict.{Verdict}
@@ -97,3 +99,10 @@ module _ (c : checked.Circuit) where
       let time = time_small Early c.gates.now c.registers.now c.times.now c.few c.small (sound_of c) _ inside in
       let some = c.some.1 in
       (omega (arith, first.1.0), omega (arith, sums.0), omega (arith, sums.1, times_small c 4, registers_small c (3 * r + 2)), told_small Early _ _ before after inside told)
+
+  -- the shortest period is
+  pub small_period : (p : ℕ) → IsShortest (of c machine_in) p → p ≤ 2 ^ 35
+  small_period p shortest = shortest.1 (2 ^ 35)
+      (λ r h.
+      let time = time_small Late c.gates.now c.registers.now c.times.now c.few c.small (sound_of c) _ (taken_of c r h) in
+      omega (arith, times_small c 3))
