@@ -1,2 +1,4 @@
+pub mod Alike
 pub mod Listing
 pub mod Paths
+pub mod Small

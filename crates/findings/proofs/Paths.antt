@@ -14,7 +14,7 @@ use Rattle.arrival.specs.declared.edge.Edge.TheVariants.{Late, Early}
 use Rattle.arrival.proofs.Turns.{time_small}
 use Rattle.path.specs.Path.{Steps, Leads, PathTold, PathRefused, written}
 use Rattle.path.proofs.Writing.{written_length}
-use Rattle.circuit.proofs.LentLaws.{gates_in_length}
+use Rattle.circuit.proofs.LentLaws.{gates_in_length, sound_in}
 use Rattle.promise.specs.Machine.{machine_in}
 use Rattle.slack.specs.Period.{IsShortest}
 use Rattle.signoff.specs.Verdict.{Short, Says, Answers}
@@ -54,55 +54,26 @@ leads_few c sound i ((g, true) ∷ p) k l =
     let rest = leads_few c sound i p (gate c g).two l.2 in
     omega (arith, l.0, before.1, rest)
 
-module _ (c : checked.Circuit) where
-  abbrev drawing : Circuit
-  drawing = drawn c.gates.now c.registers.now
+module _ (g r t : List ℕ) (whole : Whole g r t) where
+  pub sound : Sound (drawn g r)
+  sound = sound_in (register_count r) g whole.placed whole.ranged
 
   -- a path to a signal that a register takes is no longer than the longest
-  path_short : (i : ℕ) (p : Steps) (r : ℕ) → Leads drawing i p r → r < signal_count c.gates.now c.registers.now → length (written (registers_of c) (i, p)) ≤ 32769
-  path_short i p r leads inside =
-      let few = leads_few drawing (sound_of c) i p r leads in
-      omega (arith, few, written_length (registers_of c) p, c.few)
+  pub path_short : (i : ℕ) (p : Steps) (k : ℕ) → Leads (drawn g r) i p k → k < signal_count g r → length (written (register_count r) (i, p)) ≤ 32769
+  path_short i p k leads inside =
+      let few = leads_few (drawn g r) sound i p k leads in
+      omega (arith, few, written_length (register_count r) p, whole.gates_few)
 
-  refused_not : (e : Edge) (signal : ℕ) (before : List ℕ) (refusal : Refusal) → 32769 ≤ length before → signal < signal_count c.gates.now c.registers.now →
-      PathRefused e c.gates.now c.registers.now c.times.now signal before refusal → ⊥
+  refused_not : (e : Edge) (signal : ℕ) (before : List ℕ) (refusal : Refusal) → 32769 ≤ length before → signal < signal_count g r →
+      PathRefused e g r t signal before refusal → ⊥
   refused_not e signal before refusal room inside (inl past) = omega (arith, past.0)
   refused_not e signal before refusal room inside (inr (at, (i, p, told, short, is))) =
       let l = path_short i p signal told.leads inside in
       omega arith
 
   -- a verdict is given
-  pub answered : (before after : List ℕ) (v : Result Verdict Refusal) (e : Refusal) → 32769 ≤ length before → of c Answers before after v → v ≡ Err e → ⊥
+  pub answered : (before after : List ℕ) (v : Result Verdict Refusal) (e : Refusal) → 32769 ≤ length before → Answers g r t before after v → v ≡ Err e → ⊥
   answered before after (Ok v) e room a is = cc
-  answered before after (Err x) e room (inl first, same) is = none_applies c.gates.now c.registers.now c.times.now (whole_of c) x first.applies
-  answered before after (Err x) e room (inr (whole, inl (r, first, refused)), same) is = refused_not _ _ before x room (taken_of c r first.0) refused
-  answered before after (Err x) e room (inr (whole, inr (r, first, refused)), same) is = refused_not _ _ before x room (taken_of c r first.1.0) refused
-
-  told_small : (e : Edge) (signal len : ℕ) (before after : List ℕ) → signal < signal_count c.gates.now c.registers.now →
-      PathTold e c.gates.now c.registers.now c.times.now signal len before after → 2 * (len / 2) < 32769
-  told_small e signal len before after inside (i, p, told, is, begins) =
-      let l = path_short i p signal told.leads inside in
-      omega arith
-
-  -- the sums of a verdict are small
-  pub small_word : (before after : List ℕ) (v : Verdict) → of c Says before after v → SmallWord v
-  small_word before after verdict.Passed says = tt
-  small_word before after (verdict.TooLate x) (first, sums, told) =
-      let r = x.register in
-      let inside = taken_of c r first.0 in
-      let time = time_small Late c.gates.now c.registers.now c.times.now c.few c.small (sound_of c) _ inside in
-      let some = c.some.1 in
-      (omega arith, omega (arith, sums.0, times_small c 3), omega (arith, sums.1, times_small c 0, registers_small c (3 * r + 1)), told_small Late _ _ before after inside told)
-  small_word before after (verdict.TooEarly x) (first, sums, told) =
-      let r = x.register in
-      let inside = taken_of c r first.1.0 in
-      let time = time_small Early c.gates.now c.registers.now c.times.now c.few c.small (sound_of c) _ inside in
-      let some = c.some.1 in
-      (omega (arith, first.1.0), omega (arith, sums.0), omega (arith, sums.1, times_small c 4, registers_small c (3 * r + 2)), told_small Early _ _ before after inside told)
-
-  -- the shortest period is
-  pub small_period : (p : ℕ) → IsShortest (of c machine_in) p → p ≤ 2 ^ 35
-  small_period p shortest = shortest.1 (2 ^ 35)
-      (λ r h.
-      let time = time_small Late c.gates.now c.registers.now c.times.now c.few c.small (sound_of c) _ (taken_of c r h) in
-      omega (arith, times_small c 3))
+  answered before after (Err x) e room (inl first, same) is = none_applies g r t whole x first.applies
+  answered before after (Err x) e room (inr (w, inl (q, first, refused)), same) is = refused_not _ _ before x room (whole.tied q first.0).0 refused
+  answered before after (Err x) e room (inr (w, inr (q, first, refused)), same) is = refused_not _ _ before x room (whole.tied q first.1.0).0 refused

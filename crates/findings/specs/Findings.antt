@@ -1,8 +1,6 @@
 -- What is found of a checked circuit, as the claims of a report.
-use Rattle.std.specs.Prelude.{◌≡◌, ℕ, ◌+◌, ◌*◌, ◌/◌, ◌^◌, ◌<◌, ℤ, pos, List, [], ◌∷◌, ◌++◌, map, slice_index}
-use Rattle.std.specs.List.{range_with_len, All}
-use Rattle.circuit.specs.Checked.{of, registers_of}
-use Rattle.circuit.specs.declared.circuit.Circuit as checked
+use Rattle.std.specs.Prelude.{◌≡◌, ℕ, ◌+◌, ◌*◌, ◌/◌, ◌^◌, ◌<◌, pos, List, [], ◌∷◌, ◌++◌, map, slice_index}
+use Rattle.std.specs.List.{range_with_len}
 use Rattle.arrival.specs.declared.edge.Edge.TheVariants.{Late, Early}
 use Rattle.promise.specs.Machine.{Machine, machine_in}
 use Rattle.signoff.specs.Verdict.{Says}
@@ -61,13 +59,17 @@ smallest_of s = claim.Smallest (worst_of s.setup) (worst_of s.hold)
 
 -- THE FINDINGS OF A CIRCUIT: its word with the path by which that is so, the margins of all registers, the smallest of each kind, and the
 -- shortest period
-pub record AreFindings (c : checked.Circuit) (claims : List Claim) : Type 0 where
+pub record AreFindings (gates registers times : List ℕ) (claims : List Claim) : Type 0 where
   pub word : Verdict
   pub before : List ℕ
   pub after : List ℕ
-  pub says : of c Says before after word
+  pub says : Says gates registers times before after word
   pub smallest : Smallest
-  pub are_smallest : AreSmallest (of c machine_in) smallest
+  pub are_smallest : AreSmallest (machine_in gates registers times) smallest
   pub period : ℕ
-  pub is_shortest : IsShortest (of c machine_in) period
-  pub are : claims ≡ word_claims word after ++ margin_claims (of c machine_in) ++ (smallest_of smallest ∷ claim.Period (pos period) ∷ [])
+  pub is_shortest : IsShortest (machine_in gates registers times) period
+  pub are : claims ≡ word_claims word after ++ margin_claims (machine_in gates registers times) ++ (smallest_of smallest ∷ claim.Period (pos period) ∷ [])
+
+-- they are one and the same list
+abbrev pub FindingsAreOne : Type 0
+FindingsAreOne = (gates registers times : List ℕ) (xs ys : List Claim) → AreFindings gates registers times xs → AreFindings gates registers times ys → xs ≡ ys

@@ -7,7 +7,8 @@ ghost use Rattle.promise.specs.Machine.{machine_in};
 ghost use Rattle.signoff.specs.Verdict.{Says};
 ghost use Rattle.slack.specs.Margin.{AreSmallest};
 ghost use Rattle.slack.specs.Period.{IsShortest};
-ghost use Rattle.findings.specs.Findings.{gate_claim, path_claims, SmallMiss, sums_of, SmallWord, word_claims, margin_claims, worst_of, smallest_of, AreFindings};
+ghost use Rattle.findings.specs.Findings.{gate_claim, path_claims, SmallMiss, sums_of, SmallWord, word_claims, margin_claims, worst_of, smallest_of, AreFindings, FindingsAreOne};
+ghost use Rattle.findings.specs.Fitting.{FindingsFit};
 
 use circuit::{Circuit, MOST_GATES, MOST_REGISTERS};
 use claim::{Claim, Sums, Worst};
@@ -138,7 +139,7 @@ fn period(circuit: Circuit<'_>) -> Claim
 // What is found of a circuit: its word, and where it is not passed the path by which that is so; the margins of every
 // register, the smallest of each kind, and the shortest period.
 pub fn findings(heap: Global, circuit: Circuit<'_>) -> Result<Vec<Claim>, AllocError>
-    ensures { IfOk result (λ v. AreFindings circuit.entry (vec_items v)) }
+    ensures { IfOk result (λ v. of circuit.entry AreFindings (vec_items v)) }
 {
     let mut room = [0; LONGEST_PATH];
     let verdict = word(circuit, &mut room);
@@ -148,4 +149,18 @@ pub fn findings(heap: Global, circuit: Circuit<'_>) -> Result<Vec<Claim>, AllocE
     claims.push(smallest(circuit))?;
     claims.push(period(circuit))?;
     Ok(claims)
+}
+
+// The findings of a circuit are one list.
+pub fn findings_are_one() -> u8
+    ensures { FindingsAreOne }
+{
+    0
+}
+
+// Their numbers fit 64 bits with a sign.
+pub fn findings_fit() -> u8
+    ensures { FindingsFit }
+{
+    0
 }
