@@ -1,27 +1,25 @@
 -- Two lists of findings of a circuit are one.
-use Rattle.std.proofs.Common.{◌≡◌, ℕ, ◌+◌, ◌-◌, ◌*◌, ◌/◌, ◌<◌, ◌≤◌, true, false, List, [], ◌∷◌, ◌++◌, map, length, get_or, Some, sym, refl, ap, ◌∙◌, inl, inr, arith}
+use Rattle.std.proofs.Common.{◌≡◌, ℕ, ◌+◌, ◌*◌, ◌/◌, ◌<◌, List, [], ◌∷◌, map, length, get_or, Some, sym, refl, ap, ◌∙◌, inl, inr, arith}
 use Rattle.std.proofs.lemmas.Int.{ints}
-use Rattle.std.proofs.lemmas.Bool.{cases_lt, cases_eq}
+use Rattle.std.proofs.lemmas.Bool.{cases_lt}
 use Rattle.std.proofs.lemmas.List.FromFn.{length-map-range_with_len, get_or-map-range_with_len, fill_by_all}
 use Rattle.std.specs.List.{range_with_len}
 use Rattle.circuit.specs.Circuit.{Circuit}
 use Rattle.circuit.specs.Lent.{register_count, drawn}
 use Rattle.circuit.specs.Refused.{AllOrFirst}
-use Rattle.arrival.specs.Lent.{source}
 use Rattle.arrival.specs.declared.edge.Edge.{Edge}
 use Rattle.arrival.specs.declared.edge.Edge.TheVariants.{Late, Early}
-use Rattle.path.specs.Path.{Steps, Leads, Ahead, Told, PathTold, BeginsWith, written}
+use Rattle.path.specs.Path.{Steps, Leads, Ahead, PathTold, BeginsWith, written}
 use Rattle.path.proofs.Writing.{written_length}
 use Rattle.promise.specs.Machine.{Machine, machine_in}
 use Rattle.signoff.specs.Verdict.{Says}
-use Rattle.signoff.specs.declared.verdict.Miss.{Miss}
 use Rattle.signoff.specs.declared.verdict.Verdict.{Verdict}
 use Rattle.signoff.specs.declared.verdict.Verdict.TheVariants as verdict
 use Rattle.slack.specs.Margin.{margin_of, IsWorst}
 use Rattle.slack.specs.declared.worst.Worst.{Worst}
 use Rattle.claim.specs.declared.kinds.Claim.{Claim}
 use Rattle.claim.specs.declared.kinds.Claim.TheVariants as claim
-use Rattle.findings.specs.Findings.{gate_claim, path_claims, sums_of, word_claims, worst_of, smallest_of, FindingsAreOne}
+use Rattle.findings.specs.Findings.{gate_claim, path_claims, word_claims, worst_of, FindingsAreOne}
 
 -- the first place is one
 first_alike : (P : ℕ → Type 0) (n i j : ℕ) → AllOrFirst P n (Some i) → AllOrFirst P n (Some j) → i ≡ j
@@ -60,7 +58,7 @@ as_written n i p len before after is begins =
     let at : (j : ℕ) → j < len → get_or after j 0 ≡ get_or (written n (i, p)) j 0 = λ j h. begins.filled j (omega arith) in
     let head : get_or after 0 0 ≡ get_or (written n (i, p)) 0 0 = at 0 (omega arith) in
     let gates = maps_alike (gate_claim after) (gate_claim (written n (i, p))) (len / 2)
-        (λ k h. let one = at (2 * k + 1) (omega arith) in let two = at (2 * k + 2) (omega arith) in rw (one, two)) in
+    (λ k h. let one = at (2 * k + 1) (omega arith) in let two = at (2 * k + 2) (omega arith) in rw (one, two)) in
     rw (head, gates)
 
 told_alike : (e : Edge) (g r t : List ℕ) (signal len len' : ℕ) (before after before' after' : List ℕ) → PathTold e g r t signal len before after → PathTold e g r t signal len' before' after' →

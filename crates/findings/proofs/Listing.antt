@@ -1,11 +1,10 @@
 -- Claims that are put one after another.
-use Rattle.std.proofs.Common.{◌≡◌, ℕ, ◌+◌, List, [], ◌∷◌, ◌++◌, map, sym, ap, ◌∙◌, arith}
+use Rattle.std.proofs.Common.{◌≡◌, ℕ, ◌+◌, List, [], ◌∷◌, ◌++◌, map, arith}
 use Rattle.std.specs.List.{range_with_len}
 use Rattle.std.proofs.lemmas.List.{append_assoc}
 use Rattle.std.proofs.lemmas.List.FromFn.{map-range_with_len_more}
-use Rattle.promise.specs.Machine.{Machine}
 use Rattle.claim.specs.declared.kinds.Claim.{Claim}
-use Rattle.findings.specs.Findings.{gate_claim, path_claims, margin_claim}
+use Rattle.findings.specs.Findings.{gate_claim, path_claims}
 
 -- the next of several
 pub one_more : (f : ℕ → Claim) (k : ℕ) (old now : List Claim) → now ≡ old ++ map f (range_with_len 0 k) → now ++ (f k ∷ []) ≡ old ++ map f (range_with_len 0 (k + 1))

@@ -1,27 +1,17 @@
 -- A circuit that was looked at is not refused, and the longest path has room.
-use Rattle.std.proofs.Common.{◌≡◌, ℕ, ◌+◌, ◌-◌, ◌*◌, ◌/◌, ◌^◌, ◌<◌, ◌≤◌, true, false, List, [], ◌∷◌, length, Ok, Err, Result, inl, inr, arith}
-use Rattle.circuit.specs.Checked.{of, registers_of, gates_of}
+use Rattle.std.proofs.Common.{◌≡◌, ℕ, ◌+◌, ◌-◌, ◌<◌, ◌≤◌, true, false, List, [], ◌∷◌, length, Ok, Err, Result, inl, inr, arith}
 use Rattle.circuit.specs.Circuit.{Circuit, gate, Sound}
-use Rattle.circuit.specs.Lent.{register_count, gate_count, signal_count, drawn}
-use Rattle.circuit.specs.Refused.{Applies, FirstRefusal}
+use Rattle.circuit.specs.Lent.{register_count, signal_count, drawn}
+use Rattle.circuit.specs.Refused.{Applies}
 use Rattle.circuit.specs.Whole.{Whole}
-use Rattle.circuit.specs.declared.circuit.Circuit as checked
 use Rattle.circuit.specs.declared.refusal.Refusal.{Refusal}
 use Rattle.circuit.specs.declared.refusal.Refusal.TheVariants.{GateNumbers, RegisterNumbers, TimeNumbers, RegisterCount, GateCount, TooLarge, BadGate, BadDelay, BadRegister, BadOutput, NoSignal, NoRoom, OutOfBounds, NoPeriod, NoMoment}
-use Rattle.circuit.proofs.Known.{sound_of, taken_of, whole_of, registers_small, times_small}
 use Rattle.arrival.specs.declared.edge.Edge.{Edge}
-use Rattle.arrival.specs.declared.edge.Edge.TheVariants.{Late, Early}
-use Rattle.arrival.proofs.Turns.{time_small}
-use Rattle.path.specs.Path.{Steps, Leads, PathTold, PathRefused, written}
+use Rattle.path.specs.Path.{Steps, Leads, PathRefused, written}
 use Rattle.path.proofs.Writing.{written_length}
-use Rattle.circuit.proofs.LentLaws.{gates_in_length, sound_in}
-use Rattle.promise.specs.Machine.{machine_in}
-use Rattle.slack.specs.Period.{IsShortest}
-use Rattle.signoff.specs.Verdict.{Short, Says, Answers}
-use Rattle.signoff.specs.declared.verdict.Miss.{Miss}
+use Rattle.circuit.proofs.LentLaws.{sound_in}
+use Rattle.signoff.specs.Verdict.{Answers}
 use Rattle.signoff.specs.declared.verdict.Verdict.{Verdict}
-use Rattle.signoff.specs.declared.verdict.Verdict.TheVariants as verdict
-use Rattle.findings.specs.Findings.{SmallMiss, SmallWord}
 
 -- no case of a refusal applies to numbers that are a circuit
 none_applies : (g r t : List ℕ) → Whole g r t → (e : Refusal) → Applies g r t e → ⊥

@@ -1,6 +1,6 @@
 -- Numbers of findings are small.
-use Rattle.std.proofs.Common.{◌≡◌, ℕ, ◌+◌, ◌-◌, ◌*◌, ◌/◌, ◌^◌, ◌<◌, ◌≤◌, true, false, List, [], ◌∷◌, length, get_or, arith}
-use Rattle.circuit.specs.Lent.{register_count, gate_count, signal_count, drawn, takes}
+use Rattle.std.proofs.Common.{ℕ, ◌+◌, ◌*◌, ◌/◌, ◌^◌, ◌<◌, ◌≤◌, List, get_or, arith}
+use Rattle.circuit.specs.Lent.{register_count, signal_count, takes}
 use Rattle.circuit.specs.Whole.{Whole}
 use Rattle.circuit.proofs.Joined.{small_registers, small_times}
 use Rattle.arrival.specs.declared.edge.Edge.{Edge}
@@ -17,14 +17,14 @@ use Rattle.findings.specs.Findings.{SmallWord}
 use Rattle.findings.proofs.Paths.{sound, path_short}
 
 module _ (g r t : List ℕ) (whole : Whole g r t) where
-  registers_small : (i : ℕ) → get_or r i 0 ≤ 1000000
+  pub registers_small : (i : ℕ) → get_or r i 0 ≤ 1000000
   registers_small = small_registers g r t whole.small
 
-  times_small : (i : ℕ) → get_or t i 0 ≤ 1000000
+  pub times_small : (i : ℕ) → get_or t i 0 ≤ 1000000
   times_small = small_times g r t whole.small
 
   -- the time of the signal that a register takes
-  taken_small : (e : Edge) (q : ℕ) → q < register_count r → time_of e g r t (takes r q) < 2 ^ 34
+  pub taken_small : (e : Edge) (q : ℕ) → q < register_count r → time_of e g r t (takes r q) < 2 ^ 34
   taken_small e q h = time_small e g r t whole.gates_few whole.small (sound g r t whole) _ (whole.tied q h).0
 
   told_small : (e : Edge) (signal len : ℕ) (before after : List ℕ) → signal < signal_count g r →

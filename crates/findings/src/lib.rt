@@ -82,7 +82,10 @@ fn put_word(claims: &mut Vec<Claim>, verdict: Verdict, room: &[u32]) -> Result<(
     ensures { IfOk result (λ _. vec_items claims.new ≡ vec_items claims.old ++ word_claims verdict room.now) }
 {
     let (word, miss) = match verdict {
-        Verdict::Passed => return Ok(claims.push(Claim::Passed)?),
+        Verdict::Passed => {
+            claims.push(Claim::Passed)?;
+            return Ok(());
+        }
         Verdict::TooLate(miss) => (Claim::TooLate(sums(miss)), miss),
         Verdict::TooEarly(miss) => (Claim::TooEarly(sums(miss)), miss),
     };

@@ -1,4 +1,4 @@
-use Rattle.std.proofs.Common.{vec_items, rules}
+use Rattle.std.proofs.Common.{vec_items}
 use Rattle.findings.proofs.Listing.{all_put}
 use Rattle.findings.proofs.findings.Goals as goal
 

@@ -1,5 +1,4 @@
 use Rattle.std.proofs.Common.{◌≡◌, ◌<◌, ◌++◌, ◌∷◌, [], vec_items, rules, arith}
-use Rattle.std.proofs.lemmas.Int.{to_z-of_z}
 use Rattle.circuit.specs.Checked.{of, registers_of}
 use Rattle.promise.specs.Machine.{machine_in}
 use Rattle.findings.specs.Findings.{margin_claim}
