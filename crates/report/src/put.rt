@@ -1,0 +1,33 @@
+// Reports, written.
+ghost use Rattle.std.specs.Prelude.{◌≡◌, ◌++◌, OnOk, IfOk};
+ghost use Rattle.std.specs.String.{string_bytes};
+ghost use Rattle.report.specs.Reported.{claims_text, IsReported};
+
+use circuit::Circuit;
+use claim::Claim;
+use std::alloc::{AllocError, Global};
+use writing::Unwritten;
+
+// The lines of claims, and the end, behind the text.
+fn put_claims(text: &mut String, claims: &[Claim]) -> Result<(), AllocError>
+    ensures { OnOk result (string_bytes text.new ≡ string_bytes text.old ++ claims_text claims.now) }
+{
+    for claim in claims {
+        claim.put(text)?;
+    }
+    text.push_str("end\n")
+}
+
+// The text of a report. A name that could not be read again is turned away.
+pub fn text_of(
+    heap: Global,
+    name: &[u8],
+    circuit: Circuit<'_>,
+    claims: &[Claim],
+) -> Result<String, Unwritten>
+    ensures reported { IsReported name.now circuit.entry claims.now result }
+{
+    let mut text = writing::write(heap, name, circuit)?;
+    put_claims(&mut text, claims)?;
+    Ok(text)
+}
