@@ -1,3 +1,4 @@
+pub mod Again
 pub mod Meaning
 pub mod Read
 pub mod Reported

@@ -1,6 +1,9 @@
 // Reports, written.
-ghost use Rattle.std.specs.Prelude.{◌≡◌, ◌++◌, OnOk, IfOk};
+ghost use Rattle.std.specs.Prelude.{◌≡◌, ◌++◌, true, OnOk, IfOk};
+ghost use Rattle.std.specs.List.{list_all};
 ghost use Rattle.std.specs.String.{string_bytes};
+ghost use Rattle.claim.specs.Claims.{claim_fits};
+ghost use Rattle.report.specs.Again.{IsReportedAgain};
 ghost use Rattle.report.specs.Reported.{claims_text, IsReported};
 
 use circuit::Circuit;
@@ -18,7 +21,9 @@ fn put_claims(text: &mut String, claims: &[Claim]) -> Result<(), AllocError>
     text.push_str("end\n")
 }
 
-// The text of a report. A name that could not be read again is turned away.
+// The text of a report, which gives its name, its numbers and its claims when it is read again. A name that could not be
+// read again is turned away.
+#[tactic(auto, using(crate::proofs::AgainLaws::read_alone))]
 pub fn text_of(
     heap: Global,
     name: &[u8],
@@ -26,6 +31,7 @@ pub fn text_of(
     claims: &[Claim],
 ) -> Result<String, Unwritten>
     ensures reported { IsReported name.now circuit.entry claims.now result }
+    ensures again { list_all claim_fits claims.now ≡ true → IfOk result (λ text. IsReportedAgain name.now circuit.entry claims.now (string_bytes text)) }
 {
     let mut text = writing::write(heap, name, circuit)?;
     put_claims(&mut text, claims)?;
