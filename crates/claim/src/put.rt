@@ -1,16 +1,17 @@
 // Claims, written.
-ghost use Rattle.std.specs.Prelude.{◌≡◌, ◌++◌, OnOk};
+ghost use Rattle.std.specs.Prelude.{◌≡◌, ◌++◌, true, OnOk};
 ghost use Rattle.std.specs.String.{string_bytes};
-ghost use Rattle.claim.specs.Claims.{claim_line};
+ghost use Rattle.claim.specs.Claims.{claim_line, claim_fits};
 
 use crate::kinds::Claim;
 use std::alloc::AllocError;
 use std::fmt::Write;
 
 impl Claim {
-    // Its line, behind the text.
+    // Its line, behind the text. Its numbers fit, as those of every claim that is held.
     pub fn put(self, text: &mut String) -> Result<(), AllocError>
-        ensures { OnOk result (string_bytes text.new ≡ string_bytes text.old ++ claim_line self) }
+        ensures put { OnOk result (string_bytes text.new ≡ string_bytes text.old ++ claim_line self) }
+        ensures fits { claim_fits self ≡ true }
     {
         match self {
             Claim::Passed => text.push_str("passed\n"),

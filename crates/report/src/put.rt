@@ -11,9 +11,10 @@ use claim::Claim;
 use std::alloc::{AllocError, Global};
 use writing::Unwritten;
 
-// The lines of claims, and the end, behind the text.
+// The lines of claims, and the end, behind the text. The claims' numbers fit, as those of every claim that is held.
 fn put_claims(text: &mut String, claims: &[Claim]) -> Result<(), AllocError>
-    ensures { OnOk result (string_bytes text.new ≡ string_bytes text.old ++ claims_text claims.now) }
+    ensures put { OnOk result (string_bytes text.new ≡ string_bytes text.old ++ claims_text claims.now) }
+    ensures fit { OnOk result (list_all claim_fits claims.now ≡ true) }
 {
     for claim in claims {
         claim.put(text)?;
@@ -31,7 +32,7 @@ pub fn text_of(
     claims: &[Claim],
 ) -> Result<String, Unwritten>
     ensures reported { IsReported name.now circuit.entry claims.now result }
-    ensures again { list_all claim_fits claims.now ≡ true → IfOk result (λ text. IsReportedAgain name.now circuit.entry claims.now (string_bytes text)) }
+    ensures again { IfOk result (λ text. IsReportedAgain name.now circuit.entry claims.now (string_bytes text)) }
 {
     let mut text = writing::write(heap, name, circuit)?;
     put_claims(&mut text, claims)?;
