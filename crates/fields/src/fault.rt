@@ -41,6 +41,14 @@ pub enum Expected {
     NoEarlier(Line),
     // A line `cycles` before the text ends.
     Cycles,
+    // The word of a claim, or `end`.
+    Claim,
+    // A whole number of 64 bits, which may have a sign.
+    Whole,
+    // Just so many numbers after a claim's word.
+    Numbers(usize),
+    // A line `end` before the text of a report ends.
+    ReportEnd,
 }
 
 impl fmt::Display for Expected {
@@ -69,6 +77,13 @@ impl fmt::Display for Expected {
                 line.time(),
             ),
             Expected::Cycles => "expected a line `cycles`; the text ends without one",
+            Expected::Claim =>
+                "expected a line that begins with `passed`, `too-late`, `too-early`, `from`, `through`, \
+                 `margins`, `smallest`, `period` or `end`",
+            Expected::Whole => "expected a whole number that fits 64 bits, with a sign or without",
+            Expected::Numbers(1) => "expected 1 number after the line's word",
+            Expected::Numbers(n) => return write!(f, "expected {n} numbers after the line's word"),
+            Expected::ReportEnd => "expected a line `end`; the text ends inside a report",
         })
     }
 }

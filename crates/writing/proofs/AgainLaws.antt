@@ -20,7 +20,7 @@ use Rattle.writing.proofs.NumberLaws.{gate_numbers, next_gate, next_register, ti
 use Rattle.writing.proofs.RowLaws.{more_gates, more_registers, more_times, times_read, register_read, gate_read, end_read, rows_read}
 
 -- five parts before more
-parted : (a b c d e more : List ℕ) → (a ++ (b ++ (c ++ (d ++ e)))) ++ more ≡ a ++ (b ++ (c ++ (d ++ (e ++ more))))
+pub parted : (a b c d e more : List ℕ) → (a ++ (b ++ (c ++ (d ++ e)))) ++ more ≡ a ++ (b ++ (c ++ (d ++ (e ++ more))))
 parted a b c d e more =
     append_assoc a (b ++ (c ++ (d ++ e))) more
     ∙ ap (λ t. a ++ t) (append_assoc b (c ++ (d ++ e)) more

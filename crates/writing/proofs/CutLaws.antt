@@ -77,7 +77,7 @@ last_outside (Ok (Some d)) n = tt
 last_outside (Err e) n = tt
 
 -- the first word of a line that begins with the byte b begins with b
-abbrev Begins : ℕ → List (List ℕ) → Type 0
+abbrev pub Begins : ℕ → List (List ℕ) → Type 0
 Begins b [] = ⊥
 Begins b ([] ∷ ws) = ⊥
 Begins b ((c ∷ w) ∷ ws) = c ≡ b
@@ -86,17 +86,17 @@ begins_onto : (b : ℕ) (ws : List (List ℕ)) → Begins b (onto b ws)
 begins_onto b [] = refl
 begins_onto b (w ∷ ws) = refl
 
-begins : (b : ℕ) (bs : List ℕ) → blank b ≡ false → Begins b (words (b ∷ bs))
+pub begins : (b : ℕ) (bs : List ℕ) → blank b ≡ false → Begins b (words (b ∷ bs))
 unfolding words
 begins b [] e = rw e refl
 begins b (c ∷ cs) e = elim (cases_Bool (blank c)) [ inl f ↦ simp (e, f) refl | inr f ↦ simp (e, f) (begins_onto b _) ]
 
-calm_take : (k : ℕ) (l : List ℕ) → Calm l → Calm (take k l)
+pub calm_take : (k : ℕ) (l : List ℕ) → Calm l → Calm (take k l)
 calm_take zero l c = refl
 calm_take (suc k) [] c = refl
 calm_take (suc k) (b ∷ l) c = let p = and_parts (whole b) (list_all whole l) c in rw (p.0, calm_take k l p.1) refl
 
-lines_one : (b : ℕ) (l : List ℕ) → Calm (b ∷ l) → lines (b ∷ l) ≡ (b ∷ l) ∷ []
+pub lines_one : (b : ℕ) (l : List ℕ) → Calm (b ∷ l) → lines (b ∷ l) ≡ (b ∷ l) ∷ []
 unfolding lines
 lines_one b [] c = let p = and_parts (whole b) true c in let i = (and_parts (inline b) (plain b) p.0).0 in rw i refl
 lines_one b (x ∷ l) c = let p = and_parts (whole b) (list_all whole (x ∷ l)) c in let i = (and_parts (inline b) (plain b) p.0).0 in rw (i, lines_one x l p.1) refl
@@ -113,10 +113,10 @@ take_past (b ∷ l) more j = rw suc-add (ap (λ t. b ∷ t) (take_past l more j)
 
 -- a line of words, and more, cut short: inside the line, or behind it
 module _ (w : List ℕ) (ws : List (List ℕ)) (word : IsWord w) (are : AreWords ws) (more : List ℕ) where
-  abbrev the_line : List ℕ
+  abbrev pub the_line : List ℕ
   the_line = w ++ spaced ws
 
-  cut : (m : ℕ) → m + 1 < length (line_of w ws ++ more) → (take m (line_of w ws ++ more) ≡ take m the_line) ⊎ ((j : ℕ) × (j + 1 < length more) × (take m (line_of w ws ++ more) ≡ line_of w ws ++ take j more))
+  pub cut : (m : ℕ) → m + 1 < length (line_of w ws ++ more) → (take m (line_of w ws ++ more) ≡ take m the_line) ⊎ ((j : ℕ) × (j + 1 < length more) × (take m (line_of w ws ++ more) ≡ line_of w ws ++ take j more))
   cut m short =
       let e = whole_line w ws word are more in
       let long : length (line_of w ws ++ more) ≡ length the_line + suc (length more) = ap length e ∙ length-append the_line (10 ∷ more) in

@@ -24,11 +24,11 @@ dark_digit : (c : ℕ) → IsInRange 48 57 c → dark c ≡ true
 unfolding blank
 dark_digit c h = simp (ne_eqb c 32 (λ e. omega arith), ne_eqb c 9 (λ e. omega arith), ne_eqb c 13 (λ e. omega arith), ne_eqb c 10 (λ e. omega arith), ne_eqb c 35 (λ e. omega arith))
 
-dark_digits : (ds : List ℕ) → all_ascii_digits ds ≡ true → list_all dark ds ≡ true
+pub dark_digits : (ds : List ℕ) → all_ascii_digits ds ≡ true → list_all dark ds ≡ true
 dark_digits [] h = refl
 dark_digits (c ∷ cs) h = let p = tells_all_ascii_digits.parts c cs h in rw (dark_digit c p.0, dark_digits cs p.1) refl
 
-word_from : (w : List ℕ) → 0 < length w → list_all dark w ≡ true → IsWord w
+pub word_from : (w : List ℕ) → 0 < length w → list_all dark w ≡ true → IsWord w
 word_from [] h d = absurd (omega arith)
 word_from (b ∷ bs) h d = d
 

@@ -102,10 +102,10 @@ module _ (w : List ℕ) (ws : List (List ℕ)) (word : IsWord w) (are : AreWords
   pub whole_line : (more : List ℕ) → line_of w ws ++ more ≡ (w ++ spaced ws) ++ (10 ∷ more)
   whole_line more = append_assoc w (ended ws) more ∙ ap (λ t. w ++ t) (ended_is ws more) ∙ sym (append_assoc w (spaced ws) (10 ∷ more))
 
-  lines_line : (more : List ℕ) → lines (line_of w ws ++ more) ≡ (w ++ spaced ws) ∷ lines more
+  pub lines_line : (more : List ℕ) → lines (line_of w ws ++ more) ≡ (w ++ spaced ws) ∷ lines more
   lines_line more = ap lines (whole_line more) ∙ lines_cut (w ++ spaced ws) more calm_line
 
-  words_line : words (bare (w ++ spaced ws)) ≡ w ∷ ws
+  pub words_line : words (bare (w ++ spaced ws)) ≡ w ∷ ws
   words_line = ap words (bare_calm (w ++ spaced ws) calm_line) ∙ words_word w (spaced ws) word (cut_spaced ws) ∙ ap (λ t. w ∷ t) (words_spaced ws are)
 
   pub line_inside : (n : ℕ) (d : Drafted) (more : List ℕ) → inside n d (lines (line_of w ws ++ more)) ≡ went (statement n d (w ∷ ws)) n (lines more) (λ d'. inside (n + 1) d' (lines more))

@@ -33,7 +33,7 @@ pub times_word : IsWord (codes "times")
 unfolding blank
 times_word = refl
 
-end_word : IsWord (codes "end")
+pub end_word : IsWord (codes "end")
 unfolding blank
 end_word = refl
 

@@ -1,0 +1,3 @@
+pub mod ClaimLaws
+pub mod CountLaws
+pub mod NumberLaws

@@ -1,0 +1,4 @@
+pub mod AgainLaws
+pub mod CutLaws
+pub mod MeaningLaws
+pub mod TextLaws

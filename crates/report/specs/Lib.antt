@@ -1,0 +1,5 @@
+pub mod Again
+pub mod Lent
+pub mod Meaning
+pub mod Read
+pub mod Reported
