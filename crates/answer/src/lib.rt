@@ -7,7 +7,7 @@ ghost use Rattle.text.specs.Meaning.{drafted};
 ghost use Rattle.answer.specs.Said.{machine_of, PassedIf, PeriodIf, Taken, TurnedAwayIf};
 
 use circuit::{Circuit, MOST_GATES, Numbers, Refusal};
-use reason::Detail;
+use detail::Detail;
 use signoff::Verdict;
 use slack::Smallest;
 use std::alloc::Global;

@@ -1,6 +1,6 @@
 // The words on a circuit.
 use circuit::Refusal;
-use reason::Detail;
+use detail::Detail;
 use signoff::Miss;
 use slack::Smallest;
 use std::fmt;

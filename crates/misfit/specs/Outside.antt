@@ -1,7 +1,7 @@
 -- When what is told on a line is within its bounds, and when a misfit says what it is out of.
 use Rattle.std.specs.Prelude.{◌≡◌, ℕ, ◌+◌, ◌<◌, ◌≤◌, ◌⊎◌, List, length}
 use Rattle.circuit.specs.Lent.{gate_count, register_count, signal_count, gate_in, early, late}
-use Rattle.reason.specs.declared.column.Input.TheVariants.{First, Second}
+use Rattle.detail.specs.declared.column.Input.TheVariants.{First, Second}
 use Rattle.script.specs.declared.entry.Entry.{Entry}
 use Rattle.script.specs.declared.script.Script.{Script}
 use Rattle.script.specs.Entries.{entry}

@@ -9,7 +9,7 @@ ghost use Rattle.fitting.specs.Misfit.{ClockWithin};
 ghost use Rattle.misfit.specs.Outside.{Out, DelayOutside, ClockOutside, WithinOn, Outside};
 
 use circuit::{Circuit, Gate, Register};
-use reason::Input;
+use detail::Input;
 use script::{Entry, Script};
 
 mod bounded;
