@@ -17,8 +17,6 @@ use text::Draft;
 use wording::{Margins, Missed, Shortest};
 pub use wording::{Refused, Title, TurnedAway, Why};
 
-mod wording;
-
 // As many numbers as a path can have: a register, and two for each gate. The array for them is on the stack, and is lent
 // to `signoff::pass`.
 const LONGEST_PATH: usize = 1 + 2 * MOST_GATES;
