@@ -7,7 +7,7 @@ ghost use Rattle.text.specs.Meaning.{drafted};
 ghost use Rattle.answer.specs.Said.{machine_of, PassedIf, PeriodIf, Taken, TurnedAwayIf};
 
 use circuit::{Circuit, MOST_GATES, Numbers, Refusal};
-use reason::Detail;
+use detail::Detail;
 use signoff::Verdict;
 use slack::Smallest;
 use std::alloc::Global;
@@ -16,8 +16,6 @@ use std::fmt::Write;
 use text::Draft;
 use wording::{Margins, Missed, Shortest};
 pub use wording::{Refused, Title, TurnedAway, Why};
-
-mod wording;
 
 // As many numbers as a path can have: a register, and two for each gate. The array for them is on the stack, and is lent
 // to `signoff::pass`.

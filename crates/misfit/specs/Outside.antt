@@ -1,15 +1,15 @@
 -- When what is told on a line is within its bounds, and when a misfit says what it is out of.
 use Rattle.std.specs.Prelude.{◌≡◌, ℕ, ◌+◌, ◌<◌, ◌≤◌, ◌⊎◌, List, length}
 use Rattle.circuit.specs.Lent.{gate_count, register_count, signal_count, gate_in, early, late}
-use Rattle.reason.specs.declared.column.Input.TheVariants.{First, Second}
+use Rattle.detail.specs.declared.column.Input.TheVariants.{First, Second}
 use Rattle.script.specs.declared.entry.Entry.{Entry}
 use Rattle.script.specs.declared.script.Script.{Script}
 use Rattle.script.specs.Entries.{entry}
 use Rattle.script.specs.Told.{DelayFits}
 use Rattle.fitting.specs.Misfit.{ClockWithin}
-use Rattle.misfit.specs.declared.bounded.Bounded.{Bounded}
-use Rattle.misfit.specs.declared.Misfit.{Misfit}
-use Rattle.misfit.specs.declared.Misfit.TheVariants.{NoGate, Delay, NoRegister, Clock}
+use Rattle.bounds.specs.declared.Bounded.{Bounded}
+use Rattle.bounds.specs.declared.Misfit.{Misfit}
+use Rattle.bounds.specs.declared.Misfit.TheVariants.{NoGate, Delay, NoRegister, Clock}
 
 -- b is a number that was told, with its bounds, and is out of them
 pub record Out (b : Bounded) (told least greatest : ℕ) : Type 0 where

@@ -8,37 +8,11 @@ ghost use Rattle.script.specs.Told.{DelayFits};
 ghost use Rattle.fitting.specs.Misfit.{ClockWithin};
 ghost use Rattle.misfit.specs.Outside.{Out, DelayOutside, ClockOutside, WithinOn, Outside};
 
+use bounds::Bounded;
+pub use bounds::Misfit;
 use circuit::{Circuit, Gate, Register};
-use reason::Input;
+use detail::Input;
 use script::{Entry, Script};
-
-mod bounded;
-mod wording;
-
-pub use bounded::Bounded;
-
-// A delay or a clock that is out of its bounds.
-#[derive(Clone, Copy)]
-pub enum Misfit {
-    // A delay of a signal that is no gate's: those of gates begin at `first`, and end before `end`.
-    NoGate {
-        first: usize,
-        end: usize,
-    },
-    // The delay of an input of the gate with this signal.
-    Delay {
-        signal: usize,
-        input: Input,
-        bounded: Bounded,
-    },
-    // A clock of a register that is not there: there are so many.
-    NoRegister(usize),
-    // When the clock comes to this register, in its cycle.
-    Clock {
-        register: usize,
-        bounded: Bounded,
-    },
-}
 
 // A number with its bounds, if it is out of them.
 fn outside(told: u32, least: u32, greatest: u32) -> Option<Bounded>

@@ -7,12 +7,7 @@ use signoff::Verdict;
 use std::fmt;
 use std::fmt::Write;
 
-mod rows;
-mod shown;
 mod wording;
-
-pub use rows::step;
-pub use shown::Step;
 
 // As many numbers as a path can have: a register, and two for each gate.
 const LONGEST_PATH: usize = 1 + 2 * MOST_GATES;

@@ -1,11 +1,11 @@
 // The lines of a table.
-use crate::rows::step;
 use arrival::{Arrivals, Edge};
 use circuit::Register;
 use fields::name_of;
 use slack::Ends;
 use std::fmt;
 use std::fmt::Write;
+use steps::step;
 
 // What is told of the sources of paths and of gates: the columns are as wide as the largest circuit's numbers.
 fn put_row(

@@ -3,21 +3,21 @@ use Rattle.std.specs.Prelude.{◌≡◌, ℕ, ◌+◌, ◌*◌, ◌%◌, ◌<◌
 use Rattle.circuit.specs.Lent.{gate_count, register_count, signal_count, gate_in, takes, early, late, output_early, output_late}
 use Rattle.circuit.specs.declared.refusal.Refusal.{Refusal}
 use Rattle.circuit.specs.declared.refusal.Refusal.TheVariants as refusal
-use Rattle.reason.specs.declared.column.Input.TheVariants.{First, Second}
-use Rattle.reason.specs.declared.column.GateColumn.{GateColumn}
-use Rattle.reason.specs.declared.column.GateColumn.TheVariants.{Input, Table, Least, Greatest}
-use Rattle.reason.specs.declared.column.RegisterColumn.{RegisterColumn}
-use Rattle.reason.specs.declared.column.RegisterColumn.TheVariants.{Signal, Early, Late}
-use Rattle.reason.specs.declared.column.TimesColumn.{TimesColumn}
-use Rattle.reason.specs.declared.column.TimesColumn.TheVariants.{Period, Earliest, Latest, Setup, Hold}
-use Rattle.reason.specs.declared.detail.GateDetail.{GateDetail}
-use Rattle.reason.specs.declared.detail.GateDetail.TheVariants as gate
-use Rattle.reason.specs.declared.detail.RegisterDetail.{RegisterDetail}
-use Rattle.reason.specs.declared.detail.RegisterDetail.TheVariants as register
-use Rattle.reason.specs.declared.detail.TimesDetail.{TimesDetail}
-use Rattle.reason.specs.declared.detail.TimesDetail.TheVariants as time
-use Rattle.reason.specs.declared.detail.Detail.{Detail}
-use Rattle.reason.specs.declared.detail.Detail.TheVariants.{GateNumbers, RegisterNumbers, TimeNumbers, Registers, Gates, Gate, Register, Times}
+use Rattle.detail.specs.declared.column.Input.TheVariants.{First, Second}
+use Rattle.detail.specs.declared.column.GateColumn.{GateColumn}
+use Rattle.detail.specs.declared.column.GateColumn.TheVariants.{Input, Table, Least, Greatest}
+use Rattle.detail.specs.declared.column.RegisterColumn.{RegisterColumn}
+use Rattle.detail.specs.declared.column.RegisterColumn.TheVariants.{Signal, Early, Late}
+use Rattle.detail.specs.declared.column.TimesColumn.{TimesColumn}
+use Rattle.detail.specs.declared.column.TimesColumn.TheVariants.{Period, Earliest, Latest, Setup, Hold}
+use Rattle.detail.specs.declared.GateDetail.{GateDetail}
+use Rattle.detail.specs.declared.GateDetail.TheVariants as gate
+use Rattle.detail.specs.declared.RegisterDetail.{RegisterDetail}
+use Rattle.detail.specs.declared.RegisterDetail.TheVariants as register
+use Rattle.detail.specs.declared.TimesDetail.{TimesDetail}
+use Rattle.detail.specs.declared.TimesDetail.TheVariants as time
+use Rattle.detail.specs.declared.Detail.{Detail}
+use Rattle.detail.specs.declared.Detail.TheVariants.{GateNumbers, RegisterNumbers, TimeNumbers, Registers, Gates, Gate, Register, Times}
 
 -- where each number of a gate, of a register and of the times stands among them
 abbrev pub gate_place : GateColumn → ℕ

@@ -10,13 +10,9 @@ ghost use Rattle.circuit.specs.declared.refusal.Refusal.TheVariants.{TooLarge, B
 ghost use Rattle.reason.specs.Reason.{TrueOf, TrueOfGate, TrueOfRegister, TrueOfTimes};
 
 use circuit::{Gate, Numbers, Refusal, Register};
+use detail::{Detail, GateDetail, Input, Large, RegisterDetail, TimesDetail};
 
 mod column;
-mod detail;
-mod wording;
-
-pub use column::{GateColumn, Input, RegisterColumn, TimesColumn};
-pub use detail::{Detail, GateDetail, Large, RegisterDetail, TimesDetail};
 
 // A refusal, and what exactly is wrong.
 #[derive(Clone, Copy)]
@@ -37,18 +33,18 @@ fn large(numbers: Numbers<'_>, p: usize) -> Detail
         times,
     } = numbers;
     if p < gates.len() {
-        let column = GateColumn::at(p % 7);
+        let column = column::of_gate(p % 7);
         let value = gates[p];
         return Detail::Gate(p / 7, GateDetail::Large(Large { column, value }));
     }
     let q = p - gates.len();
     if q < registers.len() {
-        let column = RegisterColumn::at(q % 3);
+        let column = column::of_register(q % 3);
         let value = registers[q];
         return Detail::Register(q / 3, RegisterDetail::Large(Large { column, value }));
     }
     let i = q - registers.len();
-    let column = TimesColumn::at(i);
+    let column = column::of_times(i);
     let value = times[i];
     Detail::Times(TimesDetail::Large(Large { column, value }))
 }

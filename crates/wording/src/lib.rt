@@ -1,6 +1,8 @@
 // The words on a circuit.
+#![tactic(auto)]
+
 use circuit::Refusal;
-use reason::Detail;
+use detail::Detail;
 use signoff::Miss;
 use slack::Smallest;
 use std::fmt;
@@ -62,7 +64,7 @@ impl fmt::Display for Refused {
 
 impl TurnedAway<Why> {
     // For a line of a part that has another count of numbers than it should.
-    pub(crate) fn miscounted(part: Part) -> Self {
+    pub fn miscounted(part: Part) -> Self {
         let why = Why::Miscount(match part {
             Part::Gates => "a gate has 7 numbers",
             Part::Registers => "a register has 3 numbers",
@@ -85,9 +87,9 @@ impl<D: fmt::Display> fmt::Display for TurnedAway<D> {
 // A register that misses its time, with the lent room that begins with its path: a source, then of each gate its signal
 // and the input that the path comes in by.
 #[derive(Clone, Copy)]
-pub(crate) struct Missed<'a> {
-    pub(crate) miss: Miss,
-    pub(crate) room: &'a [u32],
+pub struct Missed<'a> {
+    pub miss: Miss,
+    pub room: &'a [u32],
 }
 
 impl fmt::Display for Missed<'_> {
@@ -105,7 +107,7 @@ impl fmt::Display for Missed<'_> {
 
 // The smallest setup margin and the smallest hold margin.
 #[derive(Clone, Copy)]
-pub(crate) struct Margins(pub(crate) Smallest);
+pub struct Margins(pub Smallest);
 
 impl fmt::Display for Margins {
     fn fmt<W: fmt::Write>(&self, f: &mut fmt::Formatter<W>) -> fmt::Result {
@@ -119,7 +121,7 @@ impl fmt::Display for Margins {
 
 // A circuit's shortest period, and the frequency of it in MHz.
 #[derive(Clone, Copy)]
-pub(crate) struct Shortest(pub(crate) u64);
+pub struct Shortest(pub u64);
 
 impl fmt::Display for Shortest {
     fn fmt<W: fmt::Write>(&self, f: &mut fmt::Formatter<W>) -> fmt::Result {

@@ -1,5 +1,10 @@
-// What exactly is wrong with numbers that are turned away.
-use crate::column::{GateColumn, Input, RegisterColumn, TimesColumn};
+// What exactly is wrong with numbers that are turned away, with its words.
+#![tactic(auto)]
+
+mod column;
+mod wording;
+
+pub use column::{GateColumn, Input, RegisterColumn, TimesColumn};
 
 #[derive(Clone, Copy)]
 pub enum Detail {

@@ -1,5 +1,5 @@
 // A detail in words.
-use crate::detail::{Detail, GateDetail, Large, RegisterDetail, TimesDetail};
+use crate::{Detail, GateDetail, Large, RegisterDetail, TimesDetail};
 use circuit::{LARGEST, MOST_GATES, MOST_REGISTERS};
 use std::fmt;
 

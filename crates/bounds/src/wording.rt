@@ -1,6 +1,5 @@
 // A misfit in words.
-use crate::Misfit;
-use crate::bounded::Bounded;
+use crate::{Bounded, Misfit};
 use std::fmt;
 
 impl fmt::Display for Bounded {
