@@ -37,6 +37,13 @@ largest_source = 2 ^ 63
 abbrev pub SmallSource : List ℕ → ℕ → Type 0
 SmallSource times i = slice_index times i ≤ largest_source
 
+-- there is room for latest and earliest times over sources, and no source's time is too large
+abbrev pub SourcesFit : (gates registers latest earliest : List ℕ) → Type 0
+SourcesFit gates registers latest earliest =
+    (signal_count gates registers ≤ length latest) × (length latest ≤ length earliest)
+    × AllOrFirst (SmallSource latest) (length latest - gate_count gates) None
+    × AllOrFirst (SmallSource earliest) (length latest - gate_count gates) None
+
 -- why room for latest and earliest times over sources is refused: too short for the signals; shorter than the other;
 -- a source's latest time that is too large, else an earliest one, by its first index
 abbrev pub SourcesRefused : (gates registers latest earliest : List ℕ) → Refusal → Type 0

@@ -3,7 +3,7 @@ ghost use Rattle.std.specs.Prelude.{◌≡◌, ℕ, ◌+◌, ◌-◌, ◌<◌, �
 ghost use Rattle.circuit.specs.Checked.{of, gates_of, registers_of};
 ghost use Rattle.circuit.specs.Filled.{Filled};
 ghost use Rattle.circuit.specs.Refused.{AllOrFirst};
-ghost use Rattle.arrival.specs.Lent.{source, SmallSource, OverSources, OverRegisters, Enough, SourcesRefused, TimesRefused};
+ghost use Rattle.arrival.specs.Lent.{source, SmallSource, OverSources, OverRegisters, Enough, SourcesFit, SourcesRefused, TimesRefused};
 ghost use Rattle.arrival.specs.declared.edge.Edge.TheVariants.{Late, Early};
 
 use crate::edge::Edge;
@@ -41,11 +41,13 @@ fn first_large(times: &[u64], n: usize) -> Option<usize>
 }
 
 // The latest and the earliest time of every signal, over the times of sources with which both slices begin: there are as
-// many as the first slice is longer than there are gates, and no fewer than registers. They are two slices, as C lends
+// many as the first slice is longer than there are gates, and no fewer than registers. A gate's input with a number below
+// theirs is a source, so in longer room not the gate that it would be over the registers. They are two slices, as C lends
 // them.
 pub fn fill(circuit: Circuit<'_>, latest: &mut [u64], earliest: &mut [u64]) -> Result<(), Refusal>
     ensures { MatchResult result
-        (λ _. OverSources Late (length latest.old - gates_of circuit.entry) circuit.entry.gates.now latest.old latest.new
+        (λ _. SourcesFit circuit.entry.gates.now circuit.entry.registers.now latest.old earliest.old
+        × OverSources Late (length latest.old - gates_of circuit.entry) circuit.entry.gates.now latest.old latest.new
         × OverSources Early (length latest.old - gates_of circuit.entry) circuit.entry.gates.now earliest.old earliest.new)
         (λ e. SourcesRefused circuit.entry.gates.now circuit.entry.registers.now latest.old earliest.old e
         × (latest.new ≡ latest.old) × (earliest.new ≡ earliest.old)) }

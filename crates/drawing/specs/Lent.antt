@@ -31,7 +31,11 @@ pub record Cycled (gates registers : List ℕ) (n : ℕ) (before after signals_b
   pub none : n ≡ 0 → signals_after ≡ signals_before
   pub some : 0 < n → Filled false (signal_count gates registers) (ideal (drawn gates registers) (held (drawn gates registers) (takes registers) (bit_at before) (n - 1))) signals_before signals_after
 
--- the answer to the call for n cycles: they were gone, or the first room that is too short is refused and nothing was changed
+-- room for the bits and the signals of a circuit
+abbrev pub RoomFor : checked.Circuit → (bits signals : List Bool) → Type 0
+RoomFor c bits signals = (registers_of c ≤ length bits) × (signals_of c ≤ length signals)
+
+-- the answer to the call for n cycles: there was room and they were gone, or the first room that is too short is refused and nothing was changed
 abbrev pub CyclesAnswer : checked.Circuit → (n : ℕ) → (bits bits' signals signals' : List Bool) → Result Unit Refusal → Type 0
-CyclesAnswer c n bits bits' signals signals' (Ok _) = Cycled c.gates.now c.registers.now n bits bits' signals signals'
+CyclesAnswer c n bits bits' signals signals' (Ok _) = RoomFor c bits signals × Cycled c.gates.now c.registers.now n bits bits' signals signals'
 CyclesAnswer c n bits bits' signals signals' (Err e) = RoomsRefused (registers_of c) (signals_of c) bits signals e × (bits' ≡ bits) × (signals' ≡ signals)

@@ -43,7 +43,8 @@ fn settle_gates(circuit: Circuit<'_>, signals: &mut [bool])
 // places than there are signals is refused.
 pub fn settle(circuit: Circuit<'_>, signals: &mut [bool]) -> Result<(), Refusal>
     ensures { MatchResult result
-        (λ _. Filled false (signals_of circuit.entry) (ideal (drawing_of circuit.entry) (bit_at signals.old)) signals.old signals.new)
+        (λ _. (signals_of circuit.entry ≤ length signals.old)
+        × Filled false (signals_of circuit.entry) (ideal (drawing_of circuit.entry) (bit_at signals.old)) signals.old signals.new)
         (λ e. RoomRefused (signals_of circuit.entry) signals.old signals.new e) }
 {
     let all = circuit.signal_count();

@@ -10,7 +10,7 @@ use Rattle.arrival.specs.declared.edge.Edge.TheVariants.{Late, Early}
 use Rattle.arrival.specs.Arrival.{delay, choose, arrival, NoWorse}
 use Rattle.arrival.specs.Lent.{source, time_of}
 use Rattle.arrival.proofs.ArrivalLaws.{arrival_in, arrival_at}
-use Rattle.path.specs.Path.{Steps, input, Leads, sum, Ahead, by_second, step, told, Told, NoneWorse, ToldIsFirst}
+use Rattle.path.specs.Path.{Steps, input, Leads, sum, Ahead, by_second, step, told, Told, NoneWorse, NoneLonger, ToldIsFirst}
 
 -- what the rule's choice says of the gate's time, for both kinds
 abbrev time_by : Edge → Bool → ℕ → ℕ → ℕ
@@ -50,6 +50,18 @@ none_worse e c s sound i ((g, false) ∷ p) k l =
 none_worse e c s sound i ((g, true) ∷ p) k l =
     let a : s i + (delay e true (gate c g) + sum e c p) ≡ delay e true (gate c g) + (s i + sum e c p) = omega arith in
     rw (a, l.0, arrival_at e c sound s g l.1) (worse_two e _ _ _ _ (none_worse e c s sound i p _ l.2))
+
+-- the signals along a path fall, down to a source
+falls : (c : Circuit) → Sound c → (i : ℕ) (p : Steps) (k : ℕ) → Leads c i p k → length p ≤ k + 1 - c.inputs
+unfolding Leads
+falls c sound i [] k l = omega arith
+falls c sound i ((g, false) ∷ p) k l = omega (arith, l.0, falls c sound i p _ l.2, (sound.before g l.1).0)
+falls c sound i ((g, true) ∷ p) k l = omega (arith, l.0, falls c sound i p _ l.2, (sound.before g l.1).1)
+
+pub none_longer : NoneLonger
+unfolding Leads
+none_longer c sound i [] k l = omega arith
+none_longer c sound i ((g, b) ∷ p) k l = omega (arith, l.0, l.1, falls c sound i ((g, b) ∷ p) k l)
 
 module _ (e : Edge) (c : Circuit) (sound : Sound c) (s : ℕ → ℕ) where
   told_source : (i : ℕ) → i < c.inputs → Told e c s i i []
@@ -141,3 +153,7 @@ module _ (e : Edge) (g r t : List ℕ) (sound : Sound (drawn g r)) where
   -- what is told to a signal of the circuit
   pub told_lent_first : (k : ℕ) → k < signal_count g r → Told e (drawn g r) (source e r t) k (told_lent k).0 (told_lent k).1
   told_lent_first k h = told_is_first e (drawn g r) (source e r t) k sound (omega (arith, gates_in_length g))
+
+  -- has no more steps than there are gates
+  pub told_lent_fits : (k : ℕ) → k < signal_count g r → length (told_lent k).1 ≤ gate_count g
+  told_lent_fits k h = omega (arith, none_longer (drawn g r) sound _ _ k (told_lent_first k h).leads, gates_in_length g)

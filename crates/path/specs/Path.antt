@@ -1,9 +1,9 @@
 -- Paths through gates, and the one by which a signal's latest or earliest time is reached.
-use Rattle.std.specs.Prelude.{◌≡◌, ℕ, ◌+◌, ◌-◌, ◌<◌, ◌≤◌, Bool, true, false, cond, ◌⊎◌, List, [], ◌∷◌, ◌++◌, length, nat_lt, slice_index}
+use Rattle.std.specs.Prelude.{◌≡◌, ℕ, ◌+◌, ◌-◌, ◌*◌, ◌<◌, ◌≤◌, Bool, true, false, cond, ◌⊎◌, List, [], ◌∷◌, ◌++◌, length, nat_lt, slice_index}
 use Rattle.circuit.specs.declared.gate.Gate.{Gate}
 use Rattle.circuit.specs.Circuit.{Circuit, gate, signals, Sound, along}
 use Rattle.circuit.specs.Filled.{Filled}
-use Rattle.circuit.specs.Lent.{register_count, signal_count, drawn}
+use Rattle.circuit.specs.Lent.{gate_count, register_count, signal_count, drawn}
 use Rattle.circuit.specs.declared.circuit.Circuit as checked
 use Rattle.circuit.specs.declared.refusal.Refusal.{Refusal}
 use Rattle.circuit.specs.declared.refusal.Refusal.TheVariants.{NoRoom, NoSignal}
@@ -70,6 +70,10 @@ NoneWorse = (e : Edge) (c : Circuit) (s : ℕ → ℕ) → Sound c → (i : ℕ)
 abbrev pub ToldIsFirst : Type 0
 ToldIsFirst = (e : Edge) (c : Circuit) (s : ℕ → ℕ) (k : ℕ) → Sound c → k < signals c → Told e c s k (told e c s k).0 (told e c s k).1
 
+-- a path has at most as many steps as there are gates: signals fall along it
+abbrev pub NoneLonger : Type 0
+NoneLonger = (c : Circuit) → Sound c → (i : ℕ) (p : Steps) (k : ℕ) → Leads c i p k → length p ≤ length c.gates
+
 -- a path as it is written: the source, then for each gate its signal's number and 0 or 1 for the input that it is come in by
 unfoldable pub written_steps : ℕ → Steps → List ℕ
 written_steps n [] = []
@@ -82,16 +86,21 @@ written n p = p.0 ∷ written_steps n p.1
 abbrev pub BeginsWith : (w before after : List ℕ) → Type 0
 BeginsWith w before after = Filled 0 (length w) (λ j. slice_index w j) before after
 
--- what a path that is told in lent memory is: the first path to a signal by which its time is reached, and how much room it takes
+-- what a path that is told in lent memory is: the first path to a signal by which its time is reached, and how much room it takes, which there was
 abbrev pub PathTold : Edge → (gates registers times : List ℕ) (signal len : ℕ) (before after : List ℕ) → Type 0
 PathTold e gates registers times signal len before after =
     (i : ℕ) × (p : Steps) × Told e (drawn gates registers) (source e registers times) signal i p
-    × (len ≡ length (written (register_count registers) (i, p))) × BeginsWith (written (register_count registers) (i, p)) before after
+    × (len ≡ length (written (register_count registers) (i, p))) × (len ≤ length before) × BeginsWith (written (register_count registers) (i, p)) before after
 
--- a signal past the circuit is refused, and then room that is too short for this path, by the length that it needs
+-- room that is too short for this path is refused by the length that it needs, which is never above one number for the source and two for each gate
+abbrev pub PathShort : Edge → (gates registers times : List ℕ) (signal : ℕ) (before : List ℕ) → Refusal → Type 0
+PathShort e gates registers times signal before refusal =
+    (i : ℕ) × (p : Steps) × Told e (drawn gates registers) (source e registers times) signal i p
+    × (length before < length (written (register_count registers) (i, p))) × (length (written (register_count registers) (i, p)) ≤ 1 + 2 * gate_count gates)
+    × (refusal ≡ NoRoom (length (written (register_count registers) (i, p))))
+
+-- a signal past the circuit is refused, and then room that is too short
 abbrev pub PathRefused : Edge → (gates registers times : List ℕ) (signal : ℕ) (before : List ℕ) → Refusal → Type 0
 PathRefused e gates registers times signal before refusal =
     ((signal_count gates registers ≤ signal) × (refusal ≡ NoSignal signal))
-    ⊎ ((signal < signal_count gates registers)
-    × ((i : ℕ) × (p : Steps) × Told e (drawn gates registers) (source e registers times) signal i p
-    × (length before < length (written (register_count registers) (i, p))) × (refusal ≡ NoRoom (length (written (register_count registers) (i, p))))))
+    ⊎ ((signal < signal_count gates registers) × PathShort e gates registers times signal before refusal)

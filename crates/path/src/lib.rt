@@ -6,7 +6,7 @@ ghost use Rattle.circuit.specs.Checked.{of, gates_of, registers_of, signals_of};
 ghost use Rattle.circuit.specs.Lent.{gate_in};
 ghost use Rattle.arrival.specs.Arrival.{delay};
 ghost use Rattle.arrival.specs.Lent.{time_of};
-ghost use Rattle.path.specs.Path.{input, by_second, told_path, written, BeginsWith, PathTold, PathRefused, NoneWorse, ToldIsFirst};
+ghost use Rattle.path.specs.Path.{input, by_second, told_path, written, BeginsWith, PathTold, PathRefused, NoneWorse, NoneLonger, ToldIsFirst};
 
 use arrival::{Arrivals, Edge};
 use circuit::{Gate, Refusal};
@@ -91,7 +91,8 @@ fn put(a: Arrivals<'_, '_>, edge: Edge, to: usize, count: usize, out: &mut [u32]
 }
 
 // Writes the path by which a signal's latest or earliest time is reached, of several the first, and answers how many
-// numbers it takes. A signal past the circuit, or room that is too short for this path, is refused.
+// numbers it takes. A signal past the circuit, or room that is too short for this path, is refused; room for one number
+// and two for each gate is never too short.
 pub fn path(
     a: Arrivals<'_, '_>,
     edge: Edge,
@@ -117,6 +118,13 @@ pub fn path(
 // No path has a later latest time, or an earlier earliest time, than the signal that it leads to.
 pub fn none_worse() -> u8
     ensures { NoneWorse }
+{
+    0
+}
+
+// No path has more steps than there are gates.
+pub fn none_longer() -> u8
+    ensures { NoneLonger }
 {
     0
 }

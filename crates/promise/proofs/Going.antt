@@ -10,7 +10,7 @@ use Rattle.arrival.specs.Window.{Wave, Moves}
 use Rattle.arrival.proofs.ArrivalLaws.{arrival_in, arrival_at}
 use Rattle.promise.specs.Machine.{Machine, Passed, Formed, drawing, since, still_for, last_change, first_change}
 use Rattle.promise.specs.Run.{Clocks}
-use Rattle.promise.specs.Promise.{Delays, CanGo}
+use Rattle.promise.specs.Promise.{Delays, MovesBy, CanGo}
 use Rattle.promise.proofs.Keeping.{carries}
 
 -- no signal changes first after it changed last
@@ -51,19 +51,26 @@ waves_in : (c : Circuit) → Sound c → (one two : ℕ → ℕ → ℕ) (s : �
 unfolding waves
 waves_in c sound one two s i t h = ap (λ (x : Wave). x t) (all_in (λ n g a b t. output g.table (a (t - one (n - c.inputs) t)) (b (t - two (n - c.inputs) t))) c sound s i h)
 
-waves_move : (c : Circuit) → Sound c → (one two : ℕ → ℕ → ℕ) → Delays c one two → (s : ℕ → Wave) → Moves c (waves c one two s)
+waves_by : (c : Circuit) → Sound c → (one two : ℕ → ℕ → ℕ) (s : ℕ → Wave) → MovesBy c one two (waves c one two s)
 unfolding waves
-waves_move c sound one two within s k t h _ _ = record {
+waves_by c sound one two s k t h _ _ =
+    let n : c.inputs + k - c.inputs ≡ k = omega arith in
+    rw n at (ap (λ (x : Wave). x t) (all_at (λ n g a b t. output g.table (a (t - one (n - c.inputs) t)) (b (t - two (n - c.inputs) t))) c sound s k h))
+
+-- delays within their bounds are some that a gate may follow by
+by_moves : (c : Circuit) (one two : ℕ → ℕ → ℕ) (w : ℕ → Wave) → Delays c one two → MovesBy c one two w → Moves c w
+by_moves c one two w within by k t h a b = record {
   delay_one = one k t;
   delay_two = two k t;
   one_least = (within.one_within k t h).0;
   one_greatest = (within.one_within k t h).1;
   two_least = (within.two_within k t h).0;
   two_greatest = (within.two_within k t h).1;
-  is =
-      let n : c.inputs + k - c.inputs ≡ k = omega arith in
-      rw n at (ap (λ (x : Wave). x t) (all_at (λ n g a b t. output g.table (a (t - one (n - c.inputs) t)) (b (t - two (n - c.inputs) t))) c sound s k h));
+  is = by k t h a b;
 }
+
+waves_move : (c : Circuit) → Sound c → (one two : ℕ → ℕ → ℕ) → Delays c one two → (s : ℕ → Wave) → Moves c (waves c one two s)
+waves_move c sound one two within s = by_moves c one two (waves c one two s) within (waves_by c sound one two s)
 
 module _ (m : Machine) (start : ℕ → Bool) (one two : ℕ → ℕ → ℕ) (clock : ℕ → ℕ → ℕ) (passed : Passed m) (within : Delays m.circuit one two) (clocks : Clocks m clock) where
   -- a register shows the drawing's bit of the last cycle whose clock came the latest output time ago
@@ -122,4 +129,5 @@ can_go m start one two clock passed within clocks = (
     shows = shows m start one two clock passed within clocks;
     takes = takes m start one two clock passed within clocks;
   },
+  waves_by m.circuit passed.formed.sound one two (shown m start one two clock passed within clocks),
 )

@@ -1,5 +1,6 @@
 -- What passing promises.
-use Rattle.std.specs.Prelude.{◌≡◌, ℕ, suc, ◌+◌, ◌*◌, ◌<◌, ◌≤◌, Bool, length}
+use Rattle.std.specs.Prelude.{◌≡◌, ℕ, suc, ◌+◌, ◌-◌, ◌*◌, ◌<◌, ◌≤◌, Bool, length}
+use Rattle.circuit.specs.Gate.{output}
 use Rattle.circuit.specs.Circuit.{Circuit, gate, signals}
 use Rattle.drawing.specs.Drawing.{ideal}
 use Rattle.arrival.specs.Arrival.{CircuitWithin}
@@ -64,8 +65,14 @@ pub record Delays (c : Circuit) (one two : ℕ → ℕ → ℕ) : Type 0 where
   pub one_within : (k t : ℕ) → k < length c.gates → ((gate c k).least_one ≤ one k t) × (one k t ≤ (gate c k).greatest_one)
   pub two_within : (k t : ℕ) → k < length c.gates → ((gate c k).least_two ≤ two k t) × (two k t ≤ (gate c k).greatest_two)
 
--- a passed machine can go, from any contents, with any delays and any clocks within their bounds: what is promised is not promised of nothing
+-- waves in which each gate follows its inputs by just these delays; at moments before its greatest delays have passed nothing is said of it
+abbrev pub MovesBy : Circuit → (one two : ℕ → ℕ → ℕ) → (ℕ → Wave) → Type 0
+MovesBy c one two w =
+    (k t : ℕ) → k < length c.gates → (gate c k).greatest_one ≤ t → (gate c k).greatest_two ≤ t →
+    w (c.inputs + k) t ≡ output (gate c k).table (w (gate c k).one (t - one k t)) (w (gate c k).two (t - two k t))
+
+-- a passed machine can go, from any contents, by any delays and any clocks within their bounds: what is promised is not promised of nothing
 abbrev pub CanGo : Type 0
 CanGo =
     (m : Machine) (start : ℕ → Bool) (one two : ℕ → ℕ → ℕ) (clock : ℕ → ℕ → ℕ) → Passed m → Delays m.circuit one two → Clocks m clock →
-    (holds : ℕ → ℕ → Bool) × (w : ℕ → Wave) × (Run m start clock holds w)
+    (holds : ℕ → ℕ → Bool) × (w : ℕ → Wave) × Run m start clock holds w × MovesBy m.circuit one two w

@@ -31,7 +31,7 @@ pub fn slower() -> u8
     0
 }
 
-// A passed machine can go, from any contents, with any delays and any clocks within their bounds.
+// A passed machine can go, from any contents, by any delays and any clocks within their bounds.
 pub fn can_go() -> u8
     ensures { CanGo }
 {

@@ -6,7 +6,7 @@ use Rattle.circuit.specs.Whole.{Whole}
 use Rattle.circuit.specs.declared.refusal.Refusal.{Refusal}
 use Rattle.arrival.specs.declared.edge.Edge.{Edge}
 use Rattle.arrival.specs.declared.edge.Edge.TheVariants.{Late, Early}
-use Rattle.path.specs.Path.{PathTold, PathRefused}
+use Rattle.path.specs.Path.{PathTold, PathShort}
 use Rattle.promise.specs.Machine.{Machine, machine_in, last_change, first_change, SetupKept, HoldKept, Passed}
 use Rattle.promise.specs.Promise.{AsDrawn}
 use Rattle.signoff.specs.declared.verdict.Verdict.{Verdict}
@@ -51,8 +51,8 @@ module _ (gates registers times : List ℕ) where
     -- room that is too short for the path that is to be told
     abbrev pub Short : Refusal → Type 0
     Short e =
-        ((r : ℕ) × FirstLate r × PathRefused Late gates registers times (takes registers r) before e)
-        ⊎ ((r : ℕ) × FirstEarly r × PathRefused Early gates registers times (takes registers r) before e)
+        ((r : ℕ) × FirstLate r × PathShort Late gates registers times (takes registers r) before e)
+        ⊎ ((r : ℕ) × FirstEarly r × PathShort Early gates registers times (takes registers r) before e)
 
     -- the answer for all numbers: a verdict if they are a circuit; the first refusal if they are not; or want of room for the path that is to be told
     abbrev pub Answers : Result Verdict Refusal → Type 0

@@ -5,7 +5,7 @@ ghost use Rattle.std.specs.Prelude.{◌≡◌, ◌<◌, ◌≤◌, ◌↔◌, Is
 ghost use Rattle.circuit.specs.Checked.{of, registers_of};
 ghost use Rattle.circuit.specs.Lent.{takes};
 ghost use Rattle.circuit.specs.Refused.{AllOrFirst};
-ghost use Rattle.path.specs.Path.{PathTold, PathRefused};
+ghost use Rattle.path.specs.Path.{PathTold, PathShort};
 ghost use Rattle.signoff.specs.Verdict.{SumsOf, SumsKept, Judged, Answers};
 
 use arrival::{Arrivals, Edge, MOST_SIGNALS, fill_from_registers};
@@ -85,7 +85,7 @@ fn miss(a: Arrivals<'_, '_>, edge: Edge, register: usize, room: &mut [u32]) -> R
         (λ x. (x.register ≡ register)
         × of a.entry.circuit SumsOf edge register x.arrival x.limit
         × of a.entry.circuit (PathTold edge) (takes a.entry.circuit.registers.now register) x.path room.old room.new)
-        (λ e. of a.entry.circuit (PathRefused edge) (takes a.entry.circuit.registers.now register) room.old e × (room.new ≡ room.old)) }
+        (λ e. of a.entry.circuit (PathShort edge) (takes a.entry.circuit.registers.now register) room.old e × (room.new ≡ room.old)) }
 {
     let sums = sums_at(a, edge, register);
     let path = path::path(a, edge, sums.signal, room)?;

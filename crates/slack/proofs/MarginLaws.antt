@@ -7,7 +7,7 @@ use Rattle.std.proofs.Math.ListN.{length-set}
 use Rattle.arrival.specs.declared.edge.Edge.{Edge}
 use Rattle.arrival.specs.declared.edge.Edge.TheVariants.{Late, Early}
 use Rattle.promise.specs.Machine.{Machine, Formed}
-use Rattle.slack.specs.Margin.{margin_of, Enough, Kept, PassedByMargins, MarginIsExact, MarginGrows, MarginsIn, IsWorst, AreSmallest}
+use Rattle.slack.specs.Margin.{margin_of, Enough, Kept, PassedByMargins, MarginIsExact, MarginGrows, PassedWithNeeds, MarginsIn, IsWorst, AreSmallest}
 use Rattle.slack.specs.Required.{MarginIsBetween}
 use Rattle.slack.specs.declared.worst.Worst.{Worst}
 use Rattle.slack.specs.declared.worst.Smallest.{Smallest}
@@ -81,6 +81,19 @@ both_smallest m s formed setup hold = record {
     enough : pos 0 ≤ℤ s.setup.margin → pos 0 ≤ℤ s.hold.margin → (e : Edge) (r : ℕ) → r < m.registers → Enough e m r
     enough some_setup some_hold Late r h = omega (arith, ints, setup.smallest r h)
     enough some_setup some_hold Early r h = omega (arith, ints, hold.smallest r h)
+
+pub with_needs : PassedWithNeeds
+with_needs m s a b formed smallest = (
+  λ passed. (
+    omega (arith, ints, smallest.setup.has, (is_exact Late m s.setup.register a).0 (passed.setup_kept _ smallest.setup.inside)),
+    omega (arith, ints, smallest.hold.has, (is_exact Early m s.hold.register b).0 (passed.hold_kept _ smallest.hold.inside)),
+  ),
+  λ (setup, hold). record {
+    formed = record { sources = formed.sources; sound = formed.sound; taken = formed.taken; clocked = formed.clocked; output_ordered = formed.output_ordered };
+    setup_kept = λ r h. (is_exact Late m r a).1 (omega (arith, ints, smallest.setup.smallest r h));
+    hold_kept = λ r h. (is_exact Early m r b).1 (omega (arith, ints, smallest.hold.smallest r h));
+  },
+)
 
 -- both margins of the next register are written
 pub both_more : (m : Machine) (n : ℕ) (before now : List ℤ) (a b : ℤ) → MarginsIn m n before now → 2 * n + 1 < length now → a ≡ margin_of Late m n → b ≡ margin_of Early m n →

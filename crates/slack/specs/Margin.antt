@@ -62,3 +62,9 @@ pub record AreSmallest (m : Machine) (s : Smallest) : Type 0 where
   pub setup : IsWorst Late m m.registers s.setup
   pub hold : IsWorst Early m m.registers s.hold
   pub passed : Passed m ↔ ((pos 0 ≤ℤ s.setup.margin) × (pos 0 ≤ℤ s.hold.margin))
+
+-- with the times a and b in the place of both a machine is passed exactly if each is at most the machine's own time and its smallest margin together
+abbrev pub PassedWithNeeds : Type 0
+PassedWithNeeds =
+    (m : Machine) (s : Smallest) (a b : ℕ) → Formed m → AreSmallest m s →
+    Passed (with_need Early (with_need Late m a) b) ↔ ((pos a ≤ℤ (pos m.setup +ℤ s.setup.margin)) × (pos b ≤ℤ (pos m.hold +ℤ s.hold.margin)))

@@ -1,7 +1,7 @@
 // Margins of the registers of a circuit, and the shortest period with which no setup margin is below 0.
 #![tactic(auto)]
 
-ghost use Rattle.slack.specs.Margin.{PassedByMargins, MarginIsExact, MarginGrows};
+ghost use Rattle.slack.specs.Margin.{PassedByMargins, MarginIsExact, MarginGrows, PassedWithNeeds};
 ghost use Rattle.slack.specs.Period.{OtherPeriod, OneLessIsNot, PassedFromShortest};
 ghost use Rattle.slack.specs.Required.{MarginIsBetween};
 ghost use Rattle.slack.specs.Word.{VerdictByMargins};
@@ -40,6 +40,13 @@ pub fn margin_is_exact() -> u8
 // When the setup or hold time has grown by the margin a register's sum is right, and with one more it is not.
 pub fn margin_grows() -> u8
     ensures { MarginGrows }
+{
+    0
+}
+
+// With other setup and hold times a machine is passed exactly if each is at most its own and the smallest margin.
+pub fn passed_with_needs() -> u8
+    ensures { PassedWithNeeds }
 {
     0
 }

@@ -39,6 +39,12 @@ module _ (m : Machine) (x : Told) (t : ℕ) where
     pub after : told.after ≡ x.clock (suc (suc n)) r
     pub take : told.take ≡ x.take (suc n) r
 
+-- what is told, and the registers' cycles, are enough for a circuit
+abbrev pub EnoughTold : Circuit → Now → State → Type 0
+EnoughTold c told b =
+    (registers_of c ≤ length (vec_items b.cycles)) × (registers_of c ≤ length told.shows.now) × (registers_of c ≤ length told.clocks.now)
+    × (gates_of c ≤ length told.delays.now)
+
 -- what is told, or the registers' cycles, are too few for a circuit: refused by the length that is needed, for the registers first, then for the gates
 abbrev pub TooFew : Circuit → Now → State → Refusal → Type 0
 TooFew c told b e =

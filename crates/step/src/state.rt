@@ -1,7 +1,7 @@
 // How far a run has come.
 ghost use Rattle.std.specs.Prelude.{◌≡◌, MatchResult};
 ghost use Rattle.circuit.specs.Checked.{of};
-ghost use Rattle.step.specs.Lent.{TooFew};
+ghost use Rattle.step.specs.Lent.{EnoughTold, TooFew};
 ghost use Rattle.step.specs.Stands.{Steps};
 
 use crate::gates::gates_now;
@@ -23,7 +23,7 @@ impl State {
     // is told, or too few cycles, are refused, and nothing is changed.
     pub fn step(&mut self, circuit: Circuit<'_>, told: Now<'_>) -> Result<(), Refusal>
         ensures { MatchResult result
-            (λ _. of circuit.entry Steps told.entry self.old self.new)
+            (λ _. EnoughTold circuit.entry told.entry self.old × of circuit.entry Steps told.entry self.old self.new)
             (λ e. TooFew circuit.entry told.entry self.old e × (self.new ≡ self.old)) }
     {
         let n = circuit.register_count();

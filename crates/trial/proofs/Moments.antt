@@ -12,7 +12,7 @@ use Rattle.promise.specs.Machine.{Machine, machine_in}
 use Rattle.promise.specs.Run.{Run}
 use Rattle.simulation.specs.Simulated.{Told, cycle, run_bits, run_waves}
 use Rattle.simulation.proofs.Running.{cycle_from, simulated_is_run}
-use Rattle.step.specs.Lent.{TooFew, TellsRegister, clocks_at}
+use Rattle.step.specs.Lent.{EnoughTold, TooFew, TellsRegister, clocks_at}
 use Rattle.step.specs.Stands.{Ready, Steps, Given, cycle_of}
 use Rattle.step.specs.declared.told.Clocks.{Clocks}
 use Rattle.step.specs.declared.told.Delays.{Delays}
@@ -139,10 +139,10 @@ module _ (s : Script) (c : Circuit) (t : ℕ) (y : Room) (standing : of c (Stand
 module _ (s : Script) (c : Circuit) (t : ℕ) (y y' : Room) (latest : y'.latest ≡ y.latest) where
   pub gone : (res : Result (Unit {0}) Refusal) → of c (ToldOn s) t (vec_items y.state.cycles) y.teller y'.teller → (now : Now) → now.moment ≡ t → now.delays.now ≡ vec_items y'.teller.delays.values →
       now.shows.now ≡ vec_items y'.teller.shows.values → now.clocks.now ≡ vec_items y'.teller.clocks →
-      MatchResult res (λ _. of c Steps now y.state y'.state) (λ e. TooFew c now y.state e × (y'.state ≡ y.state)) → of c (Goes s) t y y' res
+      MatchResult res (λ _. EnoughTold c now y.state × of c Steps now y.state y'.state) (λ e. TooFew c now y.state e × (y'.state ≡ y.state)) → of c (Goes s) t y y' res
   gone (Ok v) told now moment delays shows clocks steps = record {
     latest_same = latest;
-    goes = λ standing early. (refl, went_on s c t y standing early y' told now moment delays shows clocks latest steps);
+    goes = λ standing early. (refl, went_on s c t y standing early y' told now moment delays shows clocks latest steps.1);
   }
   gone (Err e) told now moment delays shows clocks few = record {
     latest_same = latest;

@@ -58,7 +58,7 @@ drawn_next c start n before after so filled q h =
 -- there is room for it
 has_room : (c : Circuit) (b b' s s' : List Bool) (res : Result (Unit {0}) Refusal) → length b ≡ registers_of c → length s ≡ signals_of c → CyclesAnswer c 1 b b' s s' res →
     (is_ok res ≡ true) × Cycled c.gates.now c.registers.now 1 b b' s s'
-has_room c b b' s s' (Ok v) bits signals answer = (refl, answer)
+has_room c b b' s s' (Ok v) bits signals answer = (refl, answer.1)
 has_room c b b' s s' (Err e) bits signals answer = absurd (elim answer.0 [ inl few ↦ omega arith | inr few ↦ omega arith ])
 
 -- and so the drawing goes on
