@@ -2,9 +2,10 @@
 #![tactic(auto)]
 
 ghost use Rattle.std.specs.Prelude.{◌≡◌, IfOk, IfSome, is_some, vec_items};
+ghost use Rattle.std.specs.Option.{unwrap_or};
 ghost use Rattle.slack.specs.Margin.{AreSmallest};
 ghost use Rattle.text.specs.Meaning.{drafted};
-ghost use Rattle.answer.specs.Said.{machine_of, PassedIf, PeriodIf, Taken, TurnedAwayIf};
+ghost use Rattle.answer.specs.Said.{machine_of, PassedIf, PeriodIf, RefusedFirst, Taken, behind, line_about, TurnedAwayIf};
 
 use circuit::{Circuit, MOST_GATES, Numbers, Refusal};
 use detail::Detail;
@@ -61,7 +62,9 @@ struct Source<'a> {
 
 impl Source<'_> {
     // The line that a detail is about: that of a gate, a register or the times, else the one where the circuit began.
-    fn line_of(self, detail: Detail) -> usize {
+    fn line_of(self, detail: Detail) -> usize
+        ensures { result ≡ behind self.entry.before (unwrap_or (line_about self.entry.text.now detail) self.entry.draft.now.line) }
+    {
         let line = match detail {
             Detail::Gate(k, _) => text::line_of(self.text, b"gate", k),
             Detail::Register(r, _) => text::line_of(self.text, b"register", r),
@@ -73,7 +76,8 @@ impl Source<'_> {
 
     // Why a circuit is turned away, None where its numbers are one.
     fn refused(self) -> Option<Refused>
-        ensures { TurnedAwayIf (drafted self.entry.draft.now) (is_some result) }
+        ensures away { TurnedAwayIf (drafted self.entry.draft.now) (is_some result) }
+        ensures first { IfSome result (RefusedFirst (drafted self.entry.draft.now) self.entry.text.now self.entry.before) }
     {
         let draft = self.draft;
         if let Some(miscount) = draft.miscount {
@@ -146,9 +150,11 @@ pub fn answer(heap: Global, draft: &Draft, text: &[u8], before: usize) -> Result
     source.judge(line)
 }
 
-// Why a circuit that was read is turned away, None where it is not; the rest is as for `answer`.
+// Why a circuit that was read is turned away, by the first refusal that applies; None where it is not. The rest is as for
+// `answer`.
 pub fn refused(draft: &Draft, text: &[u8], before: usize) -> Option<Refused>
-    ensures { TurnedAwayIf (drafted draft.now) (is_some result) }
+    ensures away { TurnedAwayIf (drafted draft.now) (is_some result) }
+    ensures first { IfSome result (RefusedFirst (drafted draft.now) text.now before) }
 {
     Source {
         draft,

@@ -1,5 +1,9 @@
 // A text that is read piece by piece.
-ghost use Rattle.std.specs.Prelude.{◌≡◌, ℕ, ◌+◌, min, false, true, IfOk, List, [], ◌++◌, drop, take, length, vec_items};
+ghost use Rattle.std.specs.Prelude.{◌≡◌, ℕ, ◌+◌, ◌≤◌, min, false, true, IfOk, MatchResult, List, [], ◌++◌, drop, length, vec_items};
+ghost use Rattle.std.specs.Io.KnownBytes.{Consumes, IsAtEnd};
+ghost use Rattle.input.specs.Pieces.{whole, handed_out};
+ghost use Rattle.lines.specs.Words.{inline};
+ghost use Rattle.std.specs.List.{suffix_len};
 
 use std::alloc::Global;
 use std::io;
@@ -10,6 +14,40 @@ const PIECE: usize = 65_536;
 
 // At least as many are kept, where the text has them, so that a circuit is seldom read twice.
 const LEAST: usize = 1_048_576;
+
+// How many bytes follow the last newline.
+fn open_line(text: &[u8]) -> usize
+    ensures count { result ≡ suffix_len inline text.now }
+    ensures within { result ≤ length text.now }
+{
+    text.iter().rev().take_while(|b| **b != b'\n').count()
+}
+
+// A text as far as its last newline.
+fn whole(text: &[u8]) -> &[u8]
+    ensures { result.now ≡ whole text.now }
+{
+    &text[..text.len() - open_line(text)]
+}
+
+// Reads on, until `kept` has so many bytes or the reader gives no more: then true.
+fn read_on<R: Read>(reader: &mut R, kept: &mut Vec<u8>, enough: usize) -> io::Result<bool>
+    ensures { IfOk result (λ ended. ((more : List ℕ) × (vec_items kept.new ≡ vec_items kept.old ++ more) × Consumes (R.remaining reader.old) (R.remaining reader.new) more)
+        × (ended ≡ true → IsAtEnd (R.remaining reader.new))) }
+{
+    let mut piece = [0; PIECE];
+    for _ in 0..u64::MAX {
+        if kept.len() >= enough {
+            break;
+        }
+        let n = reader.read(&mut piece)?;
+        if n == 0 {
+            return Ok(true);
+        }
+        kept.extend_from_slice(&piece[..n])?;
+    }
+    Ok(false)
+}
 
 // What was read of a text and is still needed: `kept`, from `from` on; and whether the text has ended.
 #[derive(Drop)]
@@ -50,16 +88,13 @@ impl<R: Read + Drop> Feed<R> {
 
     // The whole lines of it; all of it where the text has ended.
     pub fn lines(&self) -> &[u8]
-        ensures all { self.now.ended ≡ true → result.now ≡ drop self.now.from (vec_items self.now.kept) }
-        ensures first { (n : ℕ) × (result.now ≡ take n (drop self.now.from (vec_items self.now.kept))) }
+        ensures { result.now ≡ handed_out self.now.ended (drop self.now.from (vec_items self.now.kept)) }
     {
         let kept = self.needed();
         if self.ended {
             return kept;
         }
-        let newline = kept.iter().rposition(|b| *b == b'\n');
-        let end = newline.map_or(0, |at| at.saturating_add(1));
-        &kept[..end.min(kept.len())]
+        whole(kept)
     }
 
     // So many bytes more are not needed.
@@ -70,26 +105,21 @@ impl<R: Read + Drop> Feed<R> {
         self.from = self.from.saturating_add(n).min(self.kept.len());
     }
 
-    // Reads on, by as much as is needed already, up to the text's end.
+    // Reads on, by as much as is needed already, up to the text's end. After an error it is as before, but for what the
+    // reader gave.
     pub fn more(&mut self) -> io::Result<()>
-        ensures { IfOk result (λ _. (self.new.from ≡ 0) × ((rest : List ℕ) × (vec_items self.new.kept ≡ drop self.old.from (vec_items self.old.kept) ++ rest))) }
+        ensures { MatchResult result
+            (λ _. (self.new.from ≡ 0)
+            × ((more : List ℕ) × (vec_items self.new.kept ≡ drop self.old.from (vec_items self.old.kept) ++ more) × Consumes (R.remaining self.old.reader) (R.remaining self.new.reader) more)
+            × (self.new.ended ≡ true → IsAtEnd (R.remaining self.new.reader)))
+            (λ _. (self.new.kept ≡ self.old.kept) × (self.new.from ≡ self.old.from) × (self.new.ended ≡ self.old.ended)) }
     {
         let mut kept = Vec::from_slice(self.heap, self.needed())?;
         let enough = kept.len().saturating_mul(2).max(LEAST);
-        let mut piece = [0; PIECE];
-        for _ in 0..u64::MAX {
-            if kept.len() >= enough {
-                break;
-            }
-            let n = self.reader.read(&mut piece)?;
-            if n == 0 {
-                self.ended = true;
-                break;
-            }
-            kept.extend_from_slice(&piece[..n])?;
-        }
+        let ended = read_on(&mut self.reader, &mut kept, enough)?;
         self.kept = kept;
         self.from = 0;
+        self.ended = ended;
         Ok(())
     }
 }

@@ -1,9 +1,10 @@
 -- Laws of `words`.
-use Rattle.std.proofs.Common.{◌≡◌, ℕ, suc, ◌-◌, ◌<◌, List, [], ◌∷◌, length, take, drop, sym, refl, ap, ◌∙◌, inl, inr, add-one, one-add, arith}
-use Rattle.std.proofs.lemmas.List.{drop-drop, take_rest, drop_all, nil_from_length}
+use Rattle.std.proofs.Common.{◌≡◌, ℕ, suc, ◌+◌, ◌-◌, ◌<◌, ◌≤◌, List, [], ◌∷◌, length, take, drop, sym, refl, ap, ◌∙◌, inl, inr, add-one, one-add, arith}
+use Rattle.std.proofs.lemmas.List.{drop-drop, take_rest, drop_all, nil_from_length, length-drop}
+use Rattle.std.proofs.lemmas.List.Sums.{prefix_len-le-length}
 use Rattle.std.specs.List.{prefix_len}
 use Rattle.std.proofs.lemmas.Bool.{cases_Bool}
-use Rattle.lines.specs.Words.{blank, ink, onto, words, inline, lines}
+use Rattle.lines.specs.Words.{blank, ink, onto, words, inline, lines, IsEnd}
 use Rattle.lines.specs.Front.{front}
 
 -- blanks in front change nothing
@@ -62,3 +63,27 @@ module _ (s l rest : List ℕ) (some : 0 < length s) (l_is : l ≡ take (prefix_
 
   pub last_line : length rest ≡ 0 → lines s ≡ l ∷ lines rest
   last_line none = past_newline ∙ ap (λ x. l ∷ lines x) (drop_all 1 rest (omega arith) ∙ sym (nil_from_length rest none))
+
+-- what is dropped to is an end
+dropped : (s t : List ℕ) (n : ℕ) → n ≤ length s → t ≡ drop n s → IsEnd t s
+dropped s t n h t_is =
+    let e : length t ≡ length s - n = ap length t_is ∙ length-drop n s in
+    t_is ∙ ap (λ k. drop k s) (omega arith)
+
+-- what follows the line at the front is an end, where a newline ends it and where the text does
+module _ (s rest : List ℕ) (rest_is : rest ≡ drop (prefix_len inline s) s) where
+  count : length rest ≡ length s - prefix_len inline s
+  count = ap length rest_is ∙ length-drop (prefix_len inline s) s
+
+  pub cut_end : 0 < length rest → IsEnd (take (length rest - 1) (drop 1 rest)) s
+  cut_end some =
+      let e : drop 1 rest ≡ drop (prefix_len inline s + 1) s = ap (drop 1) rest_is ∙ drop-drop 1 (prefix_len inline s) s in
+      dropped s _ (prefix_len inline s + 1) (omega (arith, count)) (take_rest rest 1 ∙ e)
+
+  pub last_end : length rest ≡ 0 → IsEnd rest s
+  last_end none = dropped s rest (prefix_len inline s) (prefix_len-le-length inline s) rest_is
+
+-- an end of an end
+pub end_of_end : (s t u : List ℕ) → length t ≤ length s → length u ≤ length t → IsEnd t s → IsEnd u t → IsEnd u s
+end_of_end s t u t_within u_within t_is u_is =
+    u_is ∙ ap (drop (length t - length u)) t_is ∙ drop-drop (length t - length u) (length s - length t) s ∙ ap (λ k. drop k s) (omega arith)

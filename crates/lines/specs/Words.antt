@@ -1,9 +1,9 @@
 -- The lines of a text, and the words of a line.
-use Rattle.std.specs.Prelude.{◌≡◌, ℕ, ◌+◌, ◌<◌, ◌≤◌, Bool, cond, not, ◌||◌, List, [], ◌∷◌, length, take, Option, MatchOption, ◌==◌}
+use Rattle.std.specs.Prelude.{◌≡◌, ℕ, ◌+◌, ◌-◌, ◌<◌, ◌≤◌, Bool, cond, not, ◌||◌, List, [], ◌∷◌, length, take, drop, Option, MatchOption, ◌==◌}
 use Rattle.std.specs.List.{prefix_len}
 use Rattle.std.specs.Borrow.{Bor}
 
--- a space, a tab, or the carriage return of a line's end
+-- a space, a tab, or a carriage return
 unfoldable pub blank : ℕ → Bool
 blank b = b == 32 || (b == 9 || b == 13)
 
@@ -48,13 +48,19 @@ FirstWord s r =
     MatchOption r (words s ≡ [])
     (λ x. (words s ≡ x.0.now ∷ words x.1.now) × (0 < length x.0.now) × (length x.0.now + length x.1.now ≤ length s))
 
+-- t is the end of s, byte for byte
+abbrev pub IsEnd : (t s : List ℕ) → Type 0
+IsEnd t s = t ≡ drop (length s - length t) s
+
 -- r is the first line of s and what follows it, with the other lines; or None where s is empty
 abbrev pub FirstLine : (s : List ℕ) → Option (Bor (List ℕ) × Bor (List ℕ)) → Type 0
-FirstLine s r = MatchOption r (s ≡ []) (λ x. (lines s ≡ x.0.now ∷ lines x.1.now) × (length x.1.now < length s))
+FirstLine s r =
+    MatchOption r (s ≡ [])
+    (λ x. (lines s ≡ x.0.now ∷ lines x.1.now) × (length x.1.now < length s) × IsEnd x.1.now s)
 
 -- a cursor at the line with number n of the lines of s gave r, that line with its number, and is at the others of t, with
 -- number m the first; or it gave None at the text's end, and stays there
 abbrev pub NextLine : (s : List ℕ) (n : ℕ) → Option (ℕ × Bor (List ℕ)) → (t : List ℕ) (m : ℕ) → Type 0
 NextLine s n r t m =
     MatchOption r ((lines s ≡ []) × (t ≡ s) × (m ≡ n))
-    (λ x. (x.0 ≡ n) × (m ≡ n + 1) × (lines s ≡ x.1.now ∷ lines t) × (length t < length s))
+    (λ x. (x.0 ≡ n) × (m ≡ n + 1) × (lines s ≡ x.1.now ∷ lines t) × (length t < length s) × IsEnd t s)

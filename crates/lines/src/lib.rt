@@ -55,7 +55,7 @@ fn until(s: &[u8], mark: u8) -> usize
 }
 
 // The first line, and what follows its newline; None at the text's end.
-#[tactic(auto, using(crate::proofs::WordLaws::cut_line, crate::proofs::WordLaws::last_line))]
+#[tactic(auto, using(crate::proofs::WordLaws::cut_line, crate::proofs::WordLaws::last_line, crate::proofs::WordLaws::cut_end, crate::proofs::WordLaws::last_end))]
 pub fn line(s: &[u8]) -> Option<(&[u8], &[u8])>
     ensures { FirstLine s.now result }
 {

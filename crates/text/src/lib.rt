@@ -168,7 +168,7 @@ fn title(text: &[u8]) -> Result<&[u8], Expected>
 
 // The lines from inside a circuit to its end.
 fn inside<'a>(mut rest: Lines<'a>, mut draft: Draft) -> Result<Read<'a>, Fault>
-    ensures { WasRead (inside rest.entry.number (drafted draft) (lines rest.entry.text.now)) (length rest.entry.text.now) result }
+    ensures { WasRead (inside rest.entry.number (drafted draft) (lines rest.entry.text.now)) rest.entry.text.now result }
 {
     while let Some((line, text)) = rest.next() {
         let progress = draft
@@ -187,7 +187,7 @@ fn inside<'a>(mut rest: Lines<'a>, mut draft: Draft) -> Result<Read<'a>, Fault>
 
 // The first circuit of a text, None where there is none; lines are counted from 1.
 pub fn read<'a>(heap: Global, text: &'a [u8]) -> Result<Option<Read<'a>>, Fault>
-    ensures { IsRead (first_circuit 1 (lines text.now)) (length text.now) result }
+    ensures { IsRead (first_circuit 1 (lines text.now)) text.now result }
 {
     let mut rest = Lines::new(text);
     while let Some((line, text)) = rest.next() {

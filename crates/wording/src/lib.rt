@@ -1,6 +1,11 @@
 // The words on a circuit.
 #![tactic(auto)]
 
+ghost use Rattle.std.specs.Prelude.{◌≡◌, ℕ, List};
+ghost use Rattle.std.specs.Borrow.{Bor};
+ghost use Rattle.text.specs.Meaning.{refusal_of};
+ghost use Rattle.wording.specs.declared.Why.TheVariants.{Miscount};
+
 use circuit::Refusal;
 use detail::Detail;
 use signoff::Miss;
@@ -64,7 +69,9 @@ impl fmt::Display for Refused {
 
 impl TurnedAway<Why> {
     // For a line of a part that has another count of numbers than it should.
-    pub fn miscounted(part: Part) -> Self {
+    pub fn miscounted(part: Part) -> Self
+        ensures { (result.refusal ≡ refusal_of part) × ((words : Bor (List ℕ)) × (result.why ≡ Miscount words)) }
+    {
         let why = Why::Miscount(match part {
             Part::Gates => "a gate has 7 numbers",
             Part::Registers => "a register has 3 numbers",

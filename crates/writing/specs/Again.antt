@@ -17,8 +17,8 @@ read_again name n gates registers times = record { name = name; line = n; gates 
 abbrev pub line_count : (gates registers times : List ℕ) → ℕ
 line_count gates registers times = 3 + register_count registers + gate_count gates
 
--- WHAT IS WRITTEN IS READ AGAIN: of a whole circuit under a name that could be read, wherever its text stands among others,
--- the reader gets that name and just its numbers, and what follows is still to be read
+-- WHAT IS WRITTEN IS READ AGAIN: of a whole circuit under a name that could be read, on whichever line its text begins
+-- and whatever follows it, the reader gets that name and just its numbers, and what follows is still to be read
 abbrev pub WrittenIsRead : Type 0
 WrittenIsRead =
     (name gates registers times more : List ℕ) (n : ℕ) → list_all nameable name ≡ true → Whole gates registers times
