@@ -77,6 +77,12 @@ DELAYS = [
     (b"cycles 2\nshow 0 1 1\n", 2, "expected a register of the circuit"),
     (b"cycles 2\ntake 1 0 2\n", 2, "expected 0 or 1"),
     (b"cycles 2\ntake 2 0 1\ntake 1 0 1\n", 3, "expected a cycle no earlier"),
+    (b"cycles 2\nshow 2 0 1\nshow 1 0 1\n", 3, "expected a moment no earlier"),
+    (b"cycles 2\nrandom\n", 2, "expected 1 number after `random`"),
+    (b"cycles 2\nclock 0 0\n", 2, "expected 3 numbers after `clock`: cycle, register and time"),
+    (b"cycles 2\ndelay 0 1 8\n", 2, "expected 4 numbers after `delay`: moment, signal and two delays"),
+    (b"cycles 2\nshow 0 0\n", 2, "expected 3 numbers after `show`: moment, register and bit"),
+    (b"cycles 2\ntake 0 0\n", 2, "expected 3 numbers after `take`: cycle, register and bit"),
     (b"cycles 2\n\x00\n", 2, "expected a line that begins with"),
     (b"cycles 0\n", None, " no cycle"),
     (b"cycles 2\nclock 4 0 1\nclock 5 0 1\n", 3, "expected a cycle that begins before the run's end"),
@@ -113,6 +119,17 @@ def check_pass(folder):
     for text in (GOOD[:-1], GOOD.replace(b"\n", b"\r\n"), GOOD.replace(b" ", b"\t "), b"# \xff\x00\n\n" + GOOD):
         same(run("pass", folder.file("other", text)), want, text)
     same(run("pass", "-", stdin=GOOD), want, "standard input")
+
+
+def check_statuses(folder):
+    """The status is that of the worst circuit of a file, wherever it stands, and --exit-zero does not cover what cannot be read."""
+    late = GOOD.replace(b"times 20", b"times 9")
+    for text, want in ((GOOD + GOOD, 0), (late + GOOD, 1), (GOOD + late, 1)):
+        path = folder.file("two", text)
+        status, out, err = run("pass", path)
+        assert status == want and out.count("\n") == 2 and err == "", (text, status, out, err)
+        same(run("pass", "--exit-zero", path), (0, out, err), "--exit-zero")
+    same(run("pass", "--exit-zero", os.path.join(folder.path, "missing"))[0], 2, "--exit-zero")
 
 
 def check_files(folder):
@@ -228,8 +245,8 @@ def check_memory(folder):
     lines = one.count(b"\n")
     status, out, err = run("pass", folder.file("many", one * 9999 + b"circuit\nwire\n"))
     assert status == 1 and out.count("\n") == 9999 and (":%d: expected a line that begins" % (lines * 9999 + 2)) in err, err
-    status, out, err = run("pass", folder.file("many", b"# nothing\n" * 99999 + b"circuit\ngate 0\nend"))
-    assert status == 1 and out.startswith("turned away by 1 at 0: ") and out.endswith("(line 100001)\n"), out
+    status, out, err = run("pass", folder.file("many", b"# nothing\n" * 299999 + b"circuit\ngate 0\nend"))
+    assert status == 1 and out.startswith("turned away by 1 at 0: ") and out.endswith("(line 300001)\n"), out
 
 
 def check_trials(folder):
@@ -252,7 +269,7 @@ def check_trials(folder):
 def main():
     with tempfile.TemporaryDirectory() as path:
         folder = Folder(path)
-        for check in (check_pass, check_files, check_bench, check_arguments, check_long, check_limits, check_memory, check_trials):
+        for check in (check_pass, check_statuses, check_files, check_bench, check_arguments, check_long, check_limits, check_memory, check_trials):
             check(folder)
     print("bad input is told: %d texts of circuits, %d of delays, files and arguments"
           % (len(CIRCUITS) + len(REFUSED), len(DELAYS) + len(OUTSIDE)))

@@ -19,11 +19,12 @@ pub record Out (b : Bounded) (told least greatest : ℕ) : Type 0 where
   pub out : (told < least) ⊎ (greatest < told)
 
 module _ (s : Script) (g r ts : List ℕ) where
-  -- a misfit says what a told delay is out of
+  -- a misfit says what a told delay is out of: the first input's bounds, or else the second's
   abbrev pub DelayOutside : Entry → Misfit → Type 0
   DelayOutside e (NoGate first end) = (first ≡ register_count r) × (end ≡ signal_count g r) × (gate_count g ≤ e.who)
   DelayOutside e (Delay k First b) = (k ≡ register_count r + e.who) × (e.who < gate_count g) × Out b e.one (gate_in g e.who).least_one (gate_in g e.who).greatest_one
   DelayOutside e (Delay k Second b) = (k ≡ register_count r + e.who) × (e.who < gate_count g) × Out b e.two (gate_in g e.who).least_two (gate_in g e.who).greatest_two
+      × ((gate_in g e.who).least_one ≤ e.one) × (e.one ≤ (gate_in g e.who).greatest_one)
   DelayOutside e (NoRegister n) = ⊥
   DelayOutside e (Clock q b) = ⊥
 

@@ -41,20 +41,26 @@ times_place Latest = 2
 times_place Setup = 3
 times_place Hold = 4
 
--- a detail of gate k is true of the numbers lent, and is one of the refusal e
+-- signal s comes before gate k
+abbrev pub Before : (registers : List ℕ) (k s : ℕ) → Type 0
+Before registers k s = s < register_count registers + k
+
+-- a detail of gate k is true of the numbers lent, and is one of the refusal e; of several that are, it is the first: inputs before the table,
+-- and the first input before the second
 abbrev pub TrueOfGate : (gates registers : List ℕ) (e : Refusal) (k : ℕ) → GateDetail → Type 0
 TrueOfGate gates registers e k (gate.Large x) = (e ≡ refusal.TooLarge (7 * k + gate_place x.column)) × (k < gate_count gates) × (x.value ≡ slice_index gates (7 * k + gate_place x.column)) × (1000000 < x.value)
 TrueOfGate gates registers e k (gate.NotBefore First s) = (e ≡ refusal.BadGate k) × (s ≡ (gate_in gates k).one) × (register_count registers + k ≤ s)
-TrueOfGate gates registers e k (gate.NotBefore Second s) = (e ≡ refusal.BadGate k) × (s ≡ (gate_in gates k).two) × (register_count registers + k ≤ s)
-TrueOfGate gates registers e k (gate.Table t) = (e ≡ refusal.BadGate k) × (t ≡ (gate_in gates k).table) × (15 < t)
+TrueOfGate gates registers e k (gate.NotBefore Second s) = (e ≡ refusal.BadGate k) × (s ≡ (gate_in gates k).two) × (register_count registers + k ≤ s) × Before registers k (gate_in gates k).one
+TrueOfGate gates registers e k (gate.Table t) = (e ≡ refusal.BadGate k) × (t ≡ (gate_in gates k).table) × (15 < t) × Before registers k (gate_in gates k).one × Before registers k (gate_in gates k).two
 TrueOfGate gates registers e k (gate.Delay First a b) = (e ≡ refusal.BadDelay k) × (a ≡ (gate_in gates k).least_one) × (b ≡ (gate_in gates k).greatest_one) × (b < a)
 TrueOfGate gates registers e k (gate.Delay Second a b) = (e ≡ refusal.BadDelay k) × (a ≡ (gate_in gates k).least_two) × (b ≡ (gate_in gates k).greatest_two) × (b < a)
+    × ((gate_in gates k).least_one ≤ (gate_in gates k).greatest_one)
 
--- the same of register r
+-- the same of register r: its signal before its times
 abbrev pub TrueOfRegister : (gates registers : List ℕ) (e : Refusal) (r : ℕ) → RegisterDetail → Type 0
 TrueOfRegister gates registers e r (register.Large x) = (e ≡ refusal.TooLarge (length gates + (3 * r + register_place x.column))) × (r < register_count registers) × (x.value ≡ slice_index registers (3 * r + register_place x.column)) × (1000000 < x.value)
 TrueOfRegister gates registers e r (register.Signal s) = (e ≡ refusal.BadRegister r) × (s ≡ takes registers r) × (signal_count gates registers ≤ s)
-TrueOfRegister gates registers e r (register.Clock a b) = (e ≡ refusal.BadRegister r) × (a ≡ early registers r) × (b ≡ late registers r) × (b < a)
+TrueOfRegister gates registers e r (register.Clock a b) = (e ≡ refusal.BadRegister r) × (a ≡ early registers r) × (b ≡ late registers r) × (b < a) × (takes registers r < signal_count gates registers)
 
 -- the same of the times
 abbrev pub TrueOfTimes : (gates registers times : List ℕ) (e : Refusal) → TimesDetail → Type 0

@@ -109,13 +109,14 @@ module _ (y z : Trial) (same : SameCycle y z) (q : ℕ) (h : q < registers_of y.
   cycle_drawn passed = ∥∥₁_elim y.standing (Bool-set _ _) (λ st. drawn_bits _ _ _ _ st.ready passed (suc y.done) q h)
 
 -- the next cycle is done
-pub cycle_is_done : (y z y' : Trial) (before after : List Bool) → SameCycle y z → z.moment ≡ z.ends → y'.bench ≡ z.bench → y'.done ≡ z.done + 1 →
+pub cycle_is_done : (y z y' : Trial) (before after : List Bool) → SameCycle y z → z.moment ≡ z.ends → y'.bench ≡ z.bench → y'.done ≡ z.done + 1 → y'.moment ≡ z.moment →
     Filled false (registers_of y.bench.circuit) (λ r. kept z.room.state.bits r (z.done + 1)) before after → CycleDone y y' before after
-cycle_is_done y z y' before after same over b d copied =
+cycle_is_done y z y' before after same over b d m copied =
     let done : z.done + 1 ≡ suc y.done = omega (arith, same.done_same) in
     record {
       bench_same = b ∙ same.bench_same;
       one_more = d ∙ done;
+      gone = m ∙ over ∙ same.ends_same;
       bits = record { filled = λ q h. rw done at (copied.filled q h) ∙ cycle_bits y z same q h over; rest = copied.rest };
       drawn = λ passed q h. cycle_drawn y z same q h passed;
     }

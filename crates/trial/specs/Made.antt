@@ -49,10 +49,11 @@ pub record Stepped (y y' : Trial) (went : Bool) : Type 0 where
   pub on : went ≡ true → y'.moment ≡ suc y.moment
   pub over : went ≡ false → (y'.moment ≡ y.moment) × (y.moment ≡ y.ends)
 
--- THE NEXT CYCLE of a run: one more is done, and the bits lent are those that the registers hold in it, in the run that the script tells; of a passed machine these are the drawing's
+-- THE NEXT CYCLE of a run: one more is done, the run is at its end and no moment further, and the bits lent are those that the registers hold in it, in the run that the script tells; of a passed machine these are the drawing's
 pub record CycleDone (y y' : Trial) (before after : List Bool) : Type 0 where
   pub bench_same : y'.bench ≡ y.bench
   pub one_more : y'.done ≡ suc y.done
+  pub gone : y'.moment ≡ y.ends
   pub bits : Filled false (registers_of y.bench.circuit) (run_bits (machine_of y) (told_to y) (suc y.done)) before after
   pub drawn : Passed (machine_of y) → (q : ℕ) → q < registers_of y.bench.circuit → run_bits (machine_of y) (told_to y) (suc y.done) q ≡ drawing (machine_of y) (told_to y).start (suc y.done) q
 

@@ -91,6 +91,7 @@ watched y y' before after done =
     record {
       bench_same = done.bench_same;
       one_more = done.one_more;
+      gone = done.gone;
       held = record { count = rw done.bench_same at y'.held_size; each = run };
       drawn = record { count = rw done.bench_same at y'.drawn_size; each = drawn };
       passed = λ p q h. run q h ∙ done.drawn p q h ∙ sym (drawn q h);

@@ -18,10 +18,11 @@ pub record WentOn (y y' : Watch) (went : Bool) : Type 0 where
   pub stepped : Stepped y.trial y'.trial went
   pub bits_same : SameBits y y'
 
--- ONE MORE CYCLE: the bits are those that the registers hold in it, in the run that the script tells, and those of the drawing; of a passed machine they are the same
+-- ONE MORE CYCLE: the run is at its end and no moment further, the bits are those that the registers hold in it, in the run that the script tells, and those of the drawing; of a passed machine they are the same
 pub record Watched (y y' : Watch) : Type 0 where
   pub bench_same : y'.trial.bench ≡ y.trial.bench
   pub one_more : y'.trial.done ≡ suc y.trial.done
+  pub gone : y'.trial.moment ≡ y.trial.ends
   pub held : BitsOf (registers_of y.trial.bench.circuit) (run_bits (machine_of y.trial) (told_to y.trial) (suc y.trial.done)) (vec_items y'.held)
   pub drawn : BitsOf (registers_of y.trial.bench.circuit) (drawing (machine_of y.trial) (told_to y.trial).start (suc y.trial.done)) (vec_items y'.drawn)
   pub passed : Passed (machine_of y.trial) → (q : ℕ) → q < registers_of y.trial.bench.circuit → bit_at (vec_items y'.held) q ≡ bit_at (vec_items y'.drawn) q
