@@ -63,7 +63,7 @@ as_written n i p len before after is begins =
 
 told_alike : (e : Edge) (g r t : List ℕ) (signal len len' : ℕ) (before after before' after' : List ℕ) → PathTold e g r t signal len before after → PathTold e g r t signal len' before' after' →
     path_claims (len / 2) after ≡ path_claims (len' / 2) after'
-told_alike e g r t signal len len' before after before' after' (i, p, told, is, begins) (j, q, told', is', begins') =
+told_alike e g r t signal len len' before after before' after' (i, p, told, is, enough, begins) (j, q, told', is', enough', begins') =
     let same = paths_alike (drawn g r) i j p q signal told.leads told'.leads (told.first j q told'.leads told'.reaches) (told'.first i p told.leads told.reaches) in
     let n = register_count r in
     let here : path_claims (len / 2) (written n (i, p)) ≡ path_claims (len' / 2) (written n (j, q)) = rw (is, is', same.0, same.1) in

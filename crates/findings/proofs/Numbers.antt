@@ -22,7 +22,9 @@ use Rattle.slack.specs.Margin.{margin_of, IsWorst}
 use Rattle.slack.specs.declared.worst.Worst.{Worst}
 use Rattle.claim.specs.declared.kinds.Claim.{Claim}
 use Rattle.findings.specs.Findings.{gate_claim, path_claims, SmallMiss, sums_of, word_claims, margin_claim}
-use Rattle.findings.specs.Fitting.{fits, sum_numbers, claim_fits, Fitting, FindingsFit}
+use Rattle.claim.specs.Claims.{sum_numbers, claim_fits}
+use Rattle.claim.specs.Numbers.{fits}
+use Rattle.findings.specs.Fitting.{Fitting, FindingsFit}
 use Rattle.findings.proofs.Small.{registers_small, times_small, taken_small, small_word, small_period}
 
 fit_from : (n : ℕ) → n < 2 ^ 63 → fits (pos n) ≡ true
@@ -63,7 +65,7 @@ steps_low c i ((g, s) ∷ p) k l =
 
 module _ (g r t : List ℕ) (whole : Whole g r t) where
   path_fits : (e : Edge) (signal len : ℕ) (before after : List ℕ) → PathTold e g r t signal len before after → Fitting (path_claims (len / 2) after)
-  path_fits e signal len before after (i, p, told, is, begins) =
+  path_fits e signal len before after (i, p, told, is, enough, begins) =
       let c : Circuit = drawn g r in
       let n = register_count r in
       let from = leads_from c i p signal told.leads in

@@ -14,6 +14,7 @@ use std::process::ExitCode;
 use std::rt::Files;
 use std::{fmt, fs, io};
 use text::Draft;
+use writing::Unwritten;
 
 mod command;
 
@@ -116,6 +117,14 @@ fn flush(rt: &impl Print, out: &mut String) -> io::Result<()> {
     Ok(())
 }
 
+// Why a circuit's report is not written, as an error.
+fn unwritten(e: Unwritten) -> anyhow::Error {
+    anyhow::Error::msg(match e {
+        Unwritten::Name => "a name that could not be read again",
+        Unwritten::Memory => "memory is short",
+    })
+}
+
 // A circuit that was read: the name of its file, what it was read from, and the number of lines before that.
 #[derive(Clone, Copy)]
 struct Source<'a> {
@@ -162,8 +171,7 @@ impl<'a> Source<'a> {
     fn report(self, heap: Global, line: &str, out: &mut String) -> anyhow::Result<()> {
         match self.circuit() {
             Ok(circuit) => {
-                let report = report::write(heap, &self.draft.name, circuit)?;
-                out.push_str(&report)?;
+                out.push_str(&report::write(heap, &self.draft.name, circuit).map_err(unwritten)?)?;
             }
             Err(_) => write!(out, "# {line}")?,
         }

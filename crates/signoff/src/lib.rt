@@ -6,6 +6,7 @@ ghost use Rattle.circuit.specs.Checked.{of, registers_of};
 ghost use Rattle.circuit.specs.Lent.{takes};
 ghost use Rattle.circuit.specs.Refused.{AllOrFirst};
 ghost use Rattle.path.specs.Path.{PathTold, PathShort};
+ghost use Rattle.signoff.specs.Room.{RoomSuffices};
 ghost use Rattle.signoff.specs.Verdict.{SumsOf, SumsKept, Judged, Answers};
 
 use arrival::{Arrivals, Edge, MOST_SIGNALS, fill_from_registers};
@@ -130,4 +131,11 @@ pub fn pass<'a>(
     let mut earliest = [0; MOST_SIGNALS];
     fill_from_registers(circuit, &mut latest, &mut earliest)?;
     judge(Arrivals::new(circuit, &latest, &earliest), room)
+}
+
+// With room for one number and two for each gate there is a verdict on every circuit.
+pub fn room_suffices() -> u8
+    ensures { RoomSuffices }
+{
+    0
 }
