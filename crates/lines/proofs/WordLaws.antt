@@ -5,7 +5,6 @@ use Rattle.std.proofs.lemmas.List.Sums.{prefix_len-le-length}
 use Rattle.std.specs.List.{prefix_len}
 use Rattle.std.proofs.lemmas.Bool.{cases_Bool}
 use Rattle.lines.specs.Words.{blank, ink, onto, words, inline, lines, IsEnd}
-use Rattle.lines.specs.Front.{front}
 
 -- blanks in front change nothing
 pub words_past_blanks : (s : List ℕ) → words s ≡ words (drop (prefix_len blank s) s)
@@ -37,7 +36,7 @@ no_words (b ∷ bs) h =
       | inr e ↦ absurd (let h' : suc (prefix_len ink bs) ≡ 0 = simp (e, one-add) at h in omega arith)
     ]
 
-pub first_word : (s : List ℕ) → 0 < prefix_len ink (drop (prefix_len blank s) s) → words s ≡ front (drop (prefix_len blank s) s) ∷ words (drop (prefix_len ink (drop (prefix_len blank s) s)) (drop (prefix_len blank s) s))
+pub first_word : (s : List ℕ) → 0 < prefix_len ink (drop (prefix_len blank s) s) → words s ≡ take (prefix_len ink (drop (prefix_len blank s) s)) (drop (prefix_len blank s) s) ∷ words (drop (prefix_len ink (drop (prefix_len blank s) s)) (drop (prefix_len blank s) s))
 first_word s p = words_past_blanks s ∙ words_at_ink (drop (prefix_len blank s) s) p
 
 -- a text that is not empty is its first line and the others

@@ -4,7 +4,6 @@
 ghost use Rattle.std.specs.Prelude.{◌≡◌, ℕ, ◌+◌, ◌<◌, ◌≤◌, ◌==◌, not, length};
 ghost use Rattle.std.specs.List.{prefix_len};
 ghost use Rattle.std.specs.Str.{bytes_eq};
-ghost use Rattle.lines.specs.Front.{front, FrontNumber};
 ghost use Rattle.lines.specs.Numbers.{number};
 ghost use Rattle.lines.specs.Words.{blank, ink, bare, FirstWord, FirstLine};
 
@@ -77,7 +76,7 @@ pub fn bare(s: &[u8]) -> &[u8]
 }
 
 // How many blanks stand first.
-pub fn blanks(s: &[u8]) -> usize
+fn blanks(s: &[u8]) -> usize
     ensures count { result ≡ prefix_len blank s.now }
     ensures within { result ≤ length s.now }
 {
@@ -90,13 +89,6 @@ fn inked(s: &[u8]) -> usize
     ensures within { result ≤ length s.now }
 {
     s.iter().take_while(|b| !is_blank(**b)).count()
-}
-
-// The word that stands at the front, empty where a blank does.
-pub fn front(s: &[u8]) -> &[u8]
-    ensures { (result.now ≡ front s.now) × (length result.now ≡ prefix_len ink s.now) }
-{
-    &s[..inked(s)]
 }
 
 // The first word, and what follows it; None where there is none.
@@ -127,12 +119,4 @@ pub fn value(word: &[u8]) -> Result<u32, Unread>
         n = (n * 10 + u64::from(*b - b'0')).min(LIMIT);
     }
     u32::try_from(n).map_err(|_| Unread::TooLarge)
-}
-
-// The number that stands at the front, and how long its word is.
-pub fn number(s: &[u8]) -> Result<(u32, usize), Unread>
-    ensures { FrontNumber s.now result }
-{
-    let word = front(s);
-    Ok((value(word)?, word.len()))
 }
