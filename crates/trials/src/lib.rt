@@ -15,6 +15,8 @@ mod look_trials;
 #[cfg(test)]
 mod random_trials;
 #[cfg(test)]
+mod report_trials;
+#[cfg(test)]
 mod slack_trials;
 #[cfg(test)]
 mod table_trials;
