@@ -258,6 +258,14 @@ fn newlines(text: &[u8]) -> usize {
     text.iter().filter(|b| **b == b'\n').count()
 }
 
+// Passes over lines that have no circuit, of which there were so many before; answers how many there are now.
+fn skip_all<R: Read + Drop>(feed: &mut Feed<R>, before: usize) -> usize {
+    let lines = feed.lines();
+    let (bytes, count) = (lines.len(), newlines(lines));
+    feed.skip(bytes);
+    before.saturating_add(count)
+}
+
 // The circuits of a text, one after another. No more of it is kept than the largest of them takes, some times over.
 fn pass_text<R: Read + Drop>(
     rt: &(impl Print + AllocGlobal),
@@ -290,11 +298,7 @@ fn pass_text<R: Read + Drop>(
                 continue;
             }
             Found::Nothing if feed.ended() => break,
-            Found::Nothing => {
-                before = before.saturating_add(newlines(lines));
-                let all = lines.len();
-                feed.skip(all);
-            }
+            Found::Nothing => before = skip_all(feed, before),
             Found::Cut => {}
         }
         if let Err(e) = feed.more() {
