@@ -43,6 +43,10 @@ tables =
     ∷ (codes "always", λ a b. true)
     ∷ []
 
+-- the table of number t has this name
+abbrev pub Named : ℕ → List ℕ → Type 0
+Named t name = (slice_index_or tables t ([], λ a b. false)).0 ≡ name
+
 -- what the table of number t says
 abbrev pub says : ℕ → Bool → Bool → Bool
 says t = (slice_index_or tables t ([], λ a b. false)).1

@@ -1,6 +1,6 @@
 // The sixteen tables of two bits, and what they make of two bits.
-ghost use Rattle.std.specs.Prelude.{◌≡◌};
-ghost use Rattle.circuit.specs.Gate.{output, ones_of, TablesSay};
+ghost use Rattle.std.specs.Prelude.{◌≡◌, codes};
+ghost use Rattle.circuit.specs.Gate.{output, ones_of, Named, TablesSay};
 
 pub const NEVER: u32 = 0;
 
@@ -49,9 +49,16 @@ pub fn ones(table: u32) -> u32
     (table & 15).count_ones()
 }
 
-// Each of the sixteen tables does what its name says.
+// Each of the sixteen tables does what its name says, and each constant is the table of its name.
 pub fn tables_say() -> u8
-    ensures { TablesSay }
+    ensures each { TablesSay }
+    ensures constants { Named NEVER (codes "never") × Named NOR (codes "nor") × Named FIRST_ONLY (codes "first-only")
+        × Named NOT_SECOND (codes "not-second") × Named SECOND_ONLY (codes "second-only")
+        × Named NOT_FIRST (codes "not-first") × Named XOR (codes "xor") × Named NAND (codes "nand")
+        × Named AND (codes "and") × Named XNOR (codes "xnor") × Named FIRST (codes "first")
+        × Named FIRST_OR_NOT_SECOND (codes "first-or-not-second") × Named SECOND (codes "second")
+        × Named SECOND_OR_NOT_FIRST (codes "second-or-not-first") × Named OR (codes "or")
+        × Named ALWAYS (codes "always") }
 {
     0
 }

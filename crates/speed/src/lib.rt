@@ -1,8 +1,9 @@
 // What benchmarks written in C call.
 #![tactic(auto)]
 
-ghost use Rattle.std.specs.Prelude.{◌≡◌, OnOk};
+ghost use Rattle.std.specs.Prelude.{MatchResult};
 ghost use Rattle.circuit.specs.Whole.{Whole};
+ghost use Rattle.speed.specs.Turns.{Gone, TurnRefused, TurnNumber};
 
 use arrival::fill_from_registers;
 use circuit::{Circuit, Numbers, Refusal};
@@ -15,7 +16,9 @@ fn fill<'a>(
     earliest: &mut [u64],
     turns: u32,
 ) -> Result<(), Refusal>
-    ensures { OnOk result (Whole gates.now registers.now times.now) }
+    ensures { MatchResult result
+        (λ _. Whole gates.now registers.now times.now × Gone gates.now registers.now times.now turns latest.old latest.new earliest.old earliest.new)
+        (TurnRefused gates.now registers.now times.now turns latest.old latest.new earliest.old earliest.new) }
 {
     let circuit = Circuit::try_from(Numbers {
         gates,
@@ -39,7 +42,7 @@ pub extern "C" fn muleminute_fill<'a>(
     earliest: &mut [u64],
     turns: u32,
 ) -> u32
-    ensures { result ≡ 0 → Whole gates.now registers.now times.now }
+    ensures { TurnNumber gates.now registers.now times.now turns latest.old latest.new earliest.old earliest.new result }
 {
     match fill(gates, registers, times, latest, earliest, turns) {
         Ok(()) => 0,

@@ -1,5 +1,6 @@
+use Rattle.std.proofs.Common.{refl}
 use Rattle.circuit.proofs.Tables.{tables_say}
 use Rattle.circuit.proofs.table.tables_say.Goals as goal
 
 pub returns : goal.returns
-returns c = tables_say
+returns c = record { each = tables_say; constants = (refl, refl, refl, refl, refl, refl, refl, refl, refl, refl, refl, refl, refl, refl, refl, refl) }
