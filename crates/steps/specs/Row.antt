@@ -12,9 +12,10 @@ use Rattle.steps.specs.declared.shown.Step.{Step}
 abbrev pub IsGate : checked.Circuit → (signal k : ℕ) → Type 0
 IsGate c signal k = (signal ≡ registers_of c + k) × (k < gates_of c)
 
--- a step has the delay at the input that it comes in by, and the time of the gate's signal
+-- the signal is a gate's, and the step has that gate's table and its delay at the input that it comes in by, and the time of
+-- its signal
 abbrev pub IsStep : Edge → checked.Circuit → (signal : ℕ) → (second : Bool) → Step → Type 0
 IsStep e c signal second s =
     (s.signal ≡ signal) × (s.second ≡ second)
-    × ((k : ℕ) → IsGate c signal k → (s.delay ≡ delay e second (gate_in c.gates.now k)) × (s.table ≡ (gate_in c.gates.now k).table))
+    × ((k : ℕ) × IsGate c signal k × (s.delay ≡ delay e second (gate_in c.gates.now k)) × (s.table ≡ (gate_in c.gates.now k).table))
     × (s.time ≡ of c (time_of e) signal)
