@@ -7,15 +7,14 @@ ghost use Rattle.slack.specs.Margin.{AreSmallest};
 ghost use Rattle.text.specs.Meaning.{drafted};
 ghost use Rattle.answer.specs.Said.{machine_of, PassedIf, PeriodIf, RefusedFirst, Taken, behind, line_about, TurnedAwayIf};
 
-use circuit::{Circuit, MOST_GATES, Numbers, Refusal};
+use circuit::{Circuit, MOST_GATES, Numbers};
 use detail::Detail;
 use signoff::Verdict;
 use slack::Smallest;
 use std::alloc::Global;
 use std::fmt;
-use std::fmt::Write;
 use text::Draft;
-use wording::{Margins, Missed, Shortest};
+use wording::{Missed, Word};
 pub use wording::{Refused, Title, TurnedAway, Why};
 
 // As many numbers as a path can have: a register, and two for each gate. The array for them is on the stack, and is lent
@@ -96,8 +95,8 @@ impl Source<'_> {
         })
     }
 
-    // The word on a circuit that is not turned away, put behind its name.
-    fn judge(self, mut line: String) -> Result<Said, fmt::Error>
+    // What is said of a circuit that is not turned away.
+    fn judge(self, heap: Global) -> Result<Said, fmt::Error>
         requires { Taken (drafted self.draft.now) }
         ensures passed { IfOk result (λ a. PassedIf (drafted self.entry.draft.now) (is_some a.margins)) }
         ensures margins { IfOk result (λ a. IfSome a.margins (AreSmallest (machine_of (drafted self.entry.draft.now)))) }
@@ -106,23 +105,19 @@ impl Source<'_> {
         let mut room = [0; LONGEST_PATH];
         let verdict = signoff::pass(&draft.gates, &draft.registers, &draft.times, &mut room);
         let room = &room;
-        match verdict {
+        let word = match verdict {
             Ok(Verdict::Passed) => {
                 let smallest = slack::smallest(taken(draft));
-                writeln!(line, "passed, {}", Margins(smallest))?;
+                let line = wording::line(heap, &draft.name, Word::Passed(smallest))?;
                 let margins = Some(smallest);
                 return Ok(Said { line, margins });
             }
-            Ok(Verdict::TooLate(miss)) => writeln!(line, "too late {}", Missed { miss, room })?,
-            Ok(Verdict::TooEarly(miss)) => writeln!(line, "too early {}", Missed { miss, room })?,
-            // All that is left to refuse is the room.
-            Err(refusal) => {
-                let why = "room is too short";
-                writeln!(line, "{}", TurnedAway { refusal, why })?;
-            }
-        }
+            Ok(Verdict::TooLate(miss)) => Word::TooLate(Missed { miss, room }),
+            Ok(Verdict::TooEarly(miss)) => Word::TooEarly(Missed { miss, room }),
+            Err(refusal) => Word::NoRoom(refusal),
+        };
         Ok(Said {
-            line,
+            line: wording::line(heap, &draft.name, word)?,
             margins: None,
         })
     }
@@ -133,21 +128,18 @@ pub fn answer(heap: Global, draft: &Draft, text: &[u8], before: usize) -> Result
     ensures passed { IfOk result (λ a. PassedIf (drafted draft.now) (is_some a.margins)) }
     ensures margins { IfOk result (λ a. IfSome a.margins (AreSmallest (machine_of (drafted draft.now)))) }
 {
-    let mut line = String::new(heap);
-    write!(line, "{}", Title(&draft.name))?;
     let source = Source {
         draft,
         text,
         before,
     };
     if let Some(refused) = source.refused() {
-        writeln!(line, "{refused}")?;
         return Ok(Said {
-            line,
+            line: wording::line(heap, &draft.name, Word::TurnedAway(refused))?,
             margins: None,
         });
     }
-    source.judge(line)
+    source.judge(heap)
 }
 
 // Why a circuit that was read is turned away, by the first refusal that applies; None where it is not. The rest is as for
@@ -173,17 +165,10 @@ pub fn turned_away(
 ) -> Result<Option<String>, fmt::Error>
     ensures { IfOk result (λ line. TurnedAwayIf (drafted draft.now) (is_some line)) }
 {
-    let mut line = String::new(heap);
-    write!(line, "{}", Title(&draft.name))?;
-    let source = Source {
-        draft,
-        text,
-        before,
-    };
-    let Some(refused) = source.refused() else {
+    let Some(refused) = refused(draft, text, before) else {
         return Ok(None);
     };
-    writeln!(line, "{refused}")?;
+    let line = wording::line(heap, &draft.name, Word::TurnedAway(refused))?;
     Ok(Some(line))
 }
 
@@ -191,19 +176,14 @@ pub fn turned_away(
 pub fn period(heap: Global, draft: &Draft, text: &[u8], before: usize) -> Result<Paced, fmt::Error>
     ensures { IfOk result (λ a. PeriodIf (drafted draft.now) a.period) }
 {
-    let mut line = String::new(heap);
-    write!(line, "{}", Title(&draft.name))?;
-    let source = Source {
-        draft,
-        text,
-        before,
-    };
-    if let Some(refused) = source.refused() {
-        writeln!(line, "{refused}")?;
-        return Ok(Paced { line, period: None });
+    if let Some(refused) = refused(draft, text, before) {
+        return Ok(Paced {
+            line: wording::line(heap, &draft.name, Word::TurnedAway(refused))?,
+            period: None,
+        });
     }
     let shortest = slack::shortest_period(taken(draft));
-    writeln!(line, "{}", Shortest(shortest))?;
+    let line = wording::line(heap, &draft.name, Word::Shortest(shortest))?;
     let period = Some(shortest);
     Ok(Paced { line, period })
 }

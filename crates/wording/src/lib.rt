@@ -10,6 +10,7 @@ use circuit::Refusal;
 use detail::Detail;
 use signoff::Miss;
 use slack::Smallest;
+use std::alloc::Global;
 use std::fmt;
 use std::fmt::Write;
 use text::Part;
@@ -114,7 +115,7 @@ impl fmt::Display for Missed<'_> {
 
 // The smallest setup margin and the smallest hold margin.
 #[derive(Clone, Copy)]
-pub struct Margins(pub Smallest);
+struct Margins(Smallest);
 
 impl fmt::Display for Margins {
     fn fmt<W: fmt::Write>(&self, f: &mut fmt::Formatter<W>) -> fmt::Result {
@@ -128,7 +129,7 @@ impl fmt::Display for Margins {
 
 // A circuit's shortest period, and the frequency of it in MHz.
 #[derive(Clone, Copy)]
-pub struct Shortest(pub u64);
+struct Shortest(u64);
 
 impl fmt::Display for Shortest {
     fn fmt<W: fmt::Write>(&self, f: &mut fmt::Formatter<W>) -> fmt::Result {
@@ -143,4 +144,40 @@ impl fmt::Display for Shortest {
             None => Ok(()),
         }
     }
+}
+
+// The word on a circuit.
+#[derive(Clone, Copy)]
+pub enum Word<'a> {
+    Passed(Smallest),
+    TooLate(Missed<'a>),
+    TooEarly(Missed<'a>),
+    TurnedAway(Refused),
+    // All that was left to refuse was the room for a path.
+    NoRoom(Refusal),
+    // Its shortest period.
+    Shortest(u64),
+}
+
+impl fmt::Display for Word<'_> {
+    fn fmt<W: fmt::Write>(&self, f: &mut fmt::Formatter<W>) -> fmt::Result {
+        match *self {
+            Word::Passed(smallest) => write!(f, "passed, {}", Margins(smallest)),
+            Word::TooLate(missed) => write!(f, "too late {missed}"),
+            Word::TooEarly(missed) => write!(f, "too early {missed}"),
+            Word::TurnedAway(refused) => write!(f, "{refused}"),
+            Word::NoRoom(refusal) => {
+                let why = "room is too short";
+                write!(f, "{}", TurnedAway { refusal, why })
+            }
+            Word::Shortest(period) => write!(f, "{}", Shortest(period)),
+        }
+    }
+}
+
+// The line on a circuit of this name.
+pub fn line(heap: Global, name: &[u8], word: Word<'_>) -> Result<String, fmt::Error> {
+    let mut line = String::new(heap);
+    writeln!(line, "{}{word}", Title(name))?;
+    Ok(line)
 }
