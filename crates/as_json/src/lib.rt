@@ -6,19 +6,17 @@ ghost use Rattle.serde_json.specs.Data.{depth};
 ghost use Rattle.serde_json.specs.Read.{read};
 ghost use Rattle.serde_json.specs.View.{view};
 
-use answer::{Refused, TurnedAway, Why};
-use circuit::{Circuit, MOST_GATES};
+use answer::{Refused, TurnedAway};
+use circuit::Circuit;
 use object::Object;
 use serde_json::{Value, json};
+use signoff::LONGEST_PATH;
 use slack::Smallest;
 use std::alloc::{AllocError, Global};
 use verdict::Judged;
 
 mod object;
 mod verdict;
-
-// As many numbers as a path can have: a register, and two for each gate.
-const LONGEST_PATH: usize = 1 + 2 * MOST_GATES;
 
 // Where a circuit stands: its file, its name, empty where it has none, and the line where it begins.
 #[derive(Clone, Copy)]
@@ -86,16 +84,7 @@ pub fn judged(heap: Global, place: Place<'_>, circuit: Circuit<'_>) -> Result<St
     ensures { IfOk result (λ line. IsSome (read (string_bytes line))) }
 {
     let mut room = [0; LONGEST_PATH];
-    let judged = match Judged::of(circuit, &mut room) {
-        Ok(judged) => judged,
-        // All that is left to refuse is the room.
-        Err(refusal) => {
-            let why = Why::Miscount("room is too short");
-            let what = TurnedAway { refusal, why };
-            let line = place.line;
-            return turned_away(heap, place, Refused { what, line });
-        }
-    };
+    let judged = Judged::of(circuit, &mut room);
     let mut object = place.object(heap, judged.word())?;
     if let Some(miss) = judged.miss {
         object.put("register", Value::from(miss.register))?;

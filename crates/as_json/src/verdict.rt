@@ -1,7 +1,7 @@
 // The verdict on a circuit, and the word for it.
 use arrival::Edge;
-use circuit::{Circuit, Refusal};
-use signoff::{Miss, Verdict};
+use circuit::Circuit;
+use signoff::{LONGEST_PATH, Miss, Verdict};
 
 #[derive(Clone, Copy)]
 pub(crate) struct Judged {
@@ -11,18 +11,14 @@ pub(crate) struct Judged {
 }
 
 impl Judged {
-    pub(crate) fn of(circuit: Circuit<'_>, room: &mut [u32]) -> Result<Judged, Refusal> {
-        let Circuit {
-            gates,
-            registers,
-            times,
-        } = circuit;
-        let (edge, miss) = match signoff::pass(gates, registers, times, room)? {
+    // The verdict on a circuit; the path goes into `room`.
+    pub(crate) fn of(circuit: Circuit<'_>, room: &mut [u32; LONGEST_PATH]) -> Judged {
+        let (edge, miss) = match signoff::verdict_on(circuit, room) {
             Verdict::TooLate(miss) => (Edge::Late, Some(miss)),
             Verdict::TooEarly(miss) => (Edge::Early, Some(miss)),
             Verdict::Passed => (Edge::Late, None),
         };
-        Ok(Judged { edge, miss })
+        Judged { edge, miss }
     }
 
     pub(crate) fn word(self) -> &'static str {

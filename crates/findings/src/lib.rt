@@ -10,34 +10,21 @@ ghost use Rattle.slack.specs.Period.{IsShortest};
 ghost use Rattle.findings.specs.Findings.{gate_claim, path_claims, SmallMiss, sums_of, SmallWord, word_claims, margin_claims, worst_of, smallest_of, AreFindings, FindingsAreOne};
 ghost use Rattle.findings.specs.Fitting.{FindingsFit};
 
-use circuit::{Circuit, MOST_GATES, MOST_REGISTERS};
+use circuit::{Circuit, MOST_REGISTERS};
 use claim::{Claim, Sums, Worst};
-use signoff::{Miss, Verdict};
+use signoff::{LONGEST_PATH, Miss, Verdict};
 use slack::Smallest;
 use std::alloc::{AllocError, Global};
-
-// As many numbers as a path can have: a register, and two for each gate.
-const LONGEST_PATH: usize = 1 + 2 * MOST_GATES;
 
 // As many margins as a circuit can have.
 const MOST_MARGINS: usize = 2 * MOST_REGISTERS;
 
 // The word on a circuit, with the path in the room that is lent.
-fn word(circuit: Circuit<'_>, room: &mut [u32]) -> Verdict
-    requires { LONGEST_PATH ≤ length room.old }
+fn word(circuit: Circuit<'_>, room: &mut [u32; LONGEST_PATH]) -> Verdict
     ensures says { of circuit.entry Says room.old room.new result }
     ensures small { SmallWord result }
 {
-    let Circuit {
-        gates,
-        registers,
-        times,
-    } = circuit;
-    // There is room for any circuit's path.
-    let Ok(verdict) = signoff::pass(gates, registers, times, room) else {
-        unreachable!()
-    };
-    verdict
+    signoff::verdict_on(circuit, room)
 }
 
 // The two sums of a register that is named.

@@ -2,15 +2,12 @@
 #![tactic(auto)]
 
 use arrival::{Arrivals, Edge, MOST_SIGNALS, fill_from_registers};
-use circuit::{Circuit, MOST_GATES, Register};
-use signoff::Verdict;
+use circuit::{Circuit, Register};
+use signoff::{LONGEST_PATH, Verdict};
 use std::fmt;
 use std::fmt::Write;
 
 mod wording;
-
-// As many numbers as a path can have: a register, and two for each gate.
-const LONGEST_PATH: usize = 1 + 2 * MOST_GATES;
 
 // A register, and the sum that is looked at: the one of its latest or of its earliest time.
 #[derive(Clone, Copy, PartialEq)]
@@ -20,27 +17,22 @@ struct Endpoint {
 }
 
 // The register that the word on a circuit names.
-fn named(circuit: Circuit<'_>, room: &mut [u32]) -> Option<Endpoint> {
-    let Circuit {
-        gates,
-        registers,
-        times,
-    } = circuit;
-    let (edge, miss) = match signoff::pass(gates, registers, times, room) {
-        Ok(Verdict::TooLate(miss)) => (Edge::Late, miss),
-        Ok(Verdict::TooEarly(miss)) => (Edge::Early, miss),
-        Ok(Verdict::Passed) | Err(_) => return None,
+fn named(circuit: Circuit<'_>, room: &mut [u32; LONGEST_PATH]) -> Option<Endpoint> {
+    let (edge, miss) = match signoff::verdict_on(circuit, room) {
+        Verdict::TooLate(miss) => (Edge::Late, miss),
+        Verdict::TooEarly(miss) => (Edge::Early, miss),
+        Verdict::Passed => return None,
     };
     let register = miss.register;
     Some(Endpoint { edge, register })
 }
 
-// The table of a register's path. The room has a path's length.
+// The table of a register's path.
 fn put_table(
     out: &mut String,
     a: Arrivals<'_, '_>,
     endpoint: Endpoint,
-    room: &mut [u32],
+    room: &mut [u32; LONGEST_PATH],
 ) -> fmt::Result {
     let Endpoint { edge, register } = endpoint;
     let Some(ends) = slack::ends(a, edge, register) else {
@@ -48,11 +40,10 @@ fn put_table(
     };
     let row = Register::from(a.circuit.registers()[register]);
     let Ok(length) = path::path(a, edge, row.signal as usize, room) else {
-        return Err(fmt::Error);
+        unreachable!()
     };
     wording::put_head(out, a, edge, register, row)?;
-    let path = room.get(..length).ok_or(fmt::Error)?;
-    wording::put_path(out, a, edge, path)?;
+    wording::put_path(out, a, edge, &room[..length])?;
     wording::put_ends(out, ends)?;
     writeln!(out)?;
     Ok(())

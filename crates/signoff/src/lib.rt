@@ -6,15 +6,17 @@ ghost use Rattle.circuit.specs.Checked.{of, registers_of};
 ghost use Rattle.circuit.specs.Lent.{takes};
 ghost use Rattle.circuit.specs.Refused.{AllOrFirst};
 ghost use Rattle.path.specs.Path.{PathTold, PathShort};
-ghost use Rattle.signoff.specs.Room.{RoomSuffices};
-ghost use Rattle.signoff.specs.Verdict.{SumsOf, SumsKept, Judged, Answers};
+ghost use Rattle.signoff.specs.Verdict.{SumsOf, SumsKept, Judged, Says, Answers};
 
 use arrival::{Arrivals, Edge, MOST_SIGNALS, fill_from_registers};
-use circuit::{Circuit, Numbers, Refusal, Register};
+use circuit::{Circuit, MOST_GATES, Numbers, Refusal, Register};
 
 mod verdict;
 
 pub use verdict::{Miss, Verdict};
+
+// As many numbers as a path can have: a register, and two for each gate.
+pub const LONGEST_PATH: usize = 1 + 2 * MOST_GATES;
 
 // Two sums of a register that are compared, and the signal that it takes.
 #[derive(Clone, Copy)]
@@ -133,9 +135,17 @@ pub fn pass<'a>(
     judge(Arrivals::new(circuit, &latest, &earliest), room)
 }
 
-// With room for one number and two for each gate there is a verdict on every circuit.
-pub fn room_suffices() -> u8
-    ensures { RoomSuffices }
+// The verdict on a circuit, with room for every path.
+pub fn verdict_on(circuit: Circuit<'_>, room: &mut [u32; LONGEST_PATH]) -> Verdict
+    ensures { of circuit.entry Says room.old room.new result }
 {
-    0
+    let Circuit {
+        gates,
+        registers,
+        times,
+    } = circuit;
+    let Ok(verdict) = pass(gates, registers, times, room) else {
+        unreachable!()
+    };
+    verdict
 }
