@@ -1,5 +1,5 @@
 -- What a text tells is what its lines tell.
-use Rattle.std.proofs.Common.{◌≡◌, ℕ, suc, ◌+◌, ◌-◌, ◌<◌, ◌⊎◌, Bool, true, nat_le, List, [], ◌∷◌, ◌++◌, length, take, slice_index_or, find, filter_map, Some, None, Ok, Err, Option, Result, sym, refl, ap, ◌∙◌, inl, inr, append-nil, arith}
+use Rattle.std.proofs.Common.{◌≡◌, ℕ, zero, suc, ◌+◌, ◌-◌, ◌<◌, ◌⊎◌, Bool, true, nat_le, List, [], ◌∷◌, ◌++◌, length, take, slice_index_or, find, filter_map, Some, None, Ok, Err, Option, Result, sym, refl, ap, ◌∙◌, inl, inr, append-nil, arith}
 use Rattle.std.specs.List.{list_all, enumerate_from, cons_option}
 use Rattle.std.specs.Option.{option_to_list}
 use Rattle.std.proofs.lemmas.Bool.{cases_Bool}
@@ -18,7 +18,7 @@ use Rattle.script.specs.declared.kind.Kind.{Kind}
 use Rattle.script.specs.declared.kind.Kind.TheVariants.{Clock as Clocks, Take as Takes, Delay as Delays, Show as Shows}
 use Rattle.delays.specs.Row.{and_then, number_after, bits, entry_after, bit_after, delay_after}
 use Rattle.delays.specs.Meaning.{Told, nothing, once, with_cycles, with_start, with_seed, entries, with_entries, added, said, statement, Outcome, went, ended, meaning}
-use Rattle.delays.specs.ByLines.{after_word, entry_on, ByLines, FirstFault, ToldByLines, FaultIsFirst}
+use Rattle.delays.specs.ByLines.{after_word, entry_on, ByLines, Adds, FirstFault, ToldByLines, FaultIsFirst}
 
 -- a fault is no value
 never : {A E : Type 0} {x : A} {e : E} → Err e ≡ Ok x → ⊥
@@ -191,6 +191,14 @@ joined : {A : Type 0} (xs ys zs : List A) (o : Option A) (more : List A) → ys 
 joined xs ys zs None more first rest = rest ∙ rw first (ap (λ l. l ++ more) (append-nil xs))
 joined xs ys zs (Some x) more first rest = rest ∙ rw (first, append_assoc) refl
 
+one_before : (q m : ℕ) (l : List ℕ) (ls : List (List ℕ)) (t u v : Told) → Step q m (words (bare l)) t u → Steps q (m + 1) ls u v → Steps q m (l ∷ ls) t v
+one_before q m l ls t u v s rest = record {
+  cycles = joined _ _ _ _ _ s.cycles rest.cycles;
+  start = joined _ _ _ _ _ s.start rest.start;
+  seed = joined _ _ _ _ _ s.seed rest.seed;
+  entries = λ k. joined _ _ _ _ _ (s.entries k) (rest.entries k);
+}
+
 ended_ok : (n : ℕ) (t : Told) (o : Option ℕ) (t' : Told) → ended n t o ≡ Ok t' → t ≡ t'
 ended_ok n t None t' is = absurd (never is)
 ended_ok n t (Some x) t' is = same_value is
@@ -206,14 +214,7 @@ steps q n m (l ∷ ls) t t' n_is is =
     let w = went_ok (statement q (n - 1) t (words (bare l))) n (λ u. meaning q (n + 1) u ls) t' is in
     let place : n - 1 ≡ m = omega (arith, n_is) in
     let first : (u : Told) → statement q (n - 1) t (words (bare l)) ≡ Ok u → Step q m (words (bare l)) t u = λ u h. step q m t (words (bare l)) u (rw place at h) in
-    let s = first w.0 w.1 in
-    let rest = steps q (n + 1) (m + 1) ls w.0 t' (omega (arith, n_is)) w.2 in
-    record {
-      cycles = joined _ _ _ _ _ s.cycles rest.cycles;
-      start = joined _ _ _ _ _ s.start rest.start;
-      seed = joined _ _ _ _ _ s.seed rest.seed;
-      entries = λ k. joined _ _ _ _ _ (s.entries k) (rest.entries k);
-    }
+    one_before q m l ls t w.0 t' (first w.0 w.1) (steps q (n + 1) (m + 1) ls w.0 t' (omega (arith, n_is)) w.2)
 
 -- from nothing
 by_lines : (q : ℕ) (ls : List (List ℕ)) (t : Told) → Steps q 0 ls nothing t → ByLines q ls t
@@ -228,11 +229,16 @@ by_lines q ls t s = record { cycles = sym s.cycles; start = sym s.start; seed = 
 pub told_by_lines : ToldByLines
 told_by_lines q ls t is = by_lines q ls t (steps q 1 0 ls nothing t (omega arith) is)
 
+-- line i of the lines ls, m the number of the first, counted from 0, adds to what those above it tell after t
+abbrev Added : (q m : ℕ) (ls : List (List ℕ)) (t : Told) (i : ℕ) → Type 0
+Added q m ls t i = (u : Told) × (u' : Told) × Steps q m (take i ls) t u × (statement q (m + i) u (words (bare (slice_index_or ls i []))) ≡ Ok u')
+
 -- the first fault of the lines ls, m the number of the first, counted from 0, after t is told
 record Faulty (q m : ℕ) (ls : List (List ℕ)) (t : Told) (f : Fault) : Type 0 where
   above : ℕ
   told : Told
   told_above : Steps q m (take above ls) t told
+  sound_above : (i : ℕ) → i < above → Added q m ls t i
   line : f.line ≡ m + above + 1
   fault : ((above < length ls) × (statement q (m + above) told (words (bare (slice_index_or ls above []))) ≡ Err f.expected)) ⊎ ((above ≡ length ls) × (told.cycles ≡ None) × (f.expected ≡ NoCycles))
 
@@ -248,7 +254,7 @@ same_fault n e f is =
 ended_err : (q m n : ℕ) (t : Told) (f : Fault) → n ≡ m + 1 → (o : Option ℕ) → t.cycles ≡ o → ended n t o ≡ Err f → Faulty q m [] t f
 ended_err q m n t f n_is None o_is is =
     let f_is = same_fault n NoCycles f is in
-    record { above = 0; told = t; told_above = nothing_more q m t; line = omega (arith, n_is, f_is.0); fault = inr (refl, o_is, sym f_is.1) }
+    record { above = 0; told = t; told_above = nothing_more q m t; sound_above = λ i h. absurd (omega arith); line = omega (arith, n_is, f_is.0); fault = inr (refl, o_is, sym f_is.1) }
 ended_err q m n t f n_is (Some x) o_is is = absurd (never (sym is))
 
 faulty : (q n m : ℕ) (ls : List (List ℕ)) (t : Told) (f : Fault) → n ≡ m + 1 → meaning q n t ls ≡ Err f → Faulty q m ls t f
@@ -259,11 +265,20 @@ faulty q n m (l ∷ ls) t f n_is is = go (λ u h. faulty q (n + 1) (m + 1) ls u 
     place : n - 1 ≡ m
     place = omega (arith, n_is)
 
+    each : (u : Told) → statement q (n - 1) t (words (bare l)) ≡ Ok u → Step q m (words (bare l)) t u → {a : ℕ} → ((i : ℕ) → i < a → Added q (m + 1) ls u i) → (i : ℕ) → i < suc a → Added q m (l ∷ ls) t i
+    each u r_is s below zero h =
+        let here : m + 0 ≡ m = omega arith in
+        (t, u, nothing_more q m t, rw here (rw place at r_is))
+    each u r_is s below (suc i) h =
+        let more = below i (omega arith) in
+        let on : m + suc i ≡ m + 1 + i = omega arith in
+        (more.0, more.1, one_before q m l (take i ls) t u more.0 s more.2, rw on more.3)
+
     go : ((u : Told) → meaning q (n + 1) u ls ≡ Err f → Faulty q (m + 1) ls u f) → (r : Result Told Expected) → statement q (n - 1) t (words (bare l)) ≡ r → went r n (λ u. meaning q (n + 1) u ls) ≡ Err f → Faulty q m (l ∷ ls) t f
     go below (Err e) r_is is =
         let f_is = same_fault n e f is in
         let here : m + 0 ≡ m = omega arith in
-        record { above = 0; told = t; told_above = nothing_more q m t; line = omega (arith, n_is, f_is.0); fault = inl (omega arith, rw (here, ← f_is.1) (rw place at r_is)) }
+        record { above = 0; told = t; told_above = nothing_more q m t; sound_above = λ i h. absurd (omega arith); line = omega (arith, n_is, f_is.0); fault = inl (omega arith, rw (here, ← f_is.1) (rw place at r_is)) }
     go below (Ok u) r_is is =
         let s = step q m t (words (bare l)) u (rw place at r_is) in
         let rest = below u is in
@@ -271,12 +286,8 @@ faulty q n m (l ∷ ls) t f n_is is = go (λ u h. faulty q (n + 1) (m + 1) ls u 
         record {
           above = suc rest.above;
           told = rest.told;
-          told_above = record {
-            cycles = joined _ _ _ _ _ s.cycles rest.told_above.cycles;
-            start = joined _ _ _ _ _ s.start rest.told_above.start;
-            seed = joined _ _ _ _ _ s.seed rest.told_above.seed;
-            entries = λ k. joined _ _ _ _ _ (s.entries k) (rest.told_above.entries k);
-          };
+          told_above = one_before q m l (take rest.above ls) t u rest.told s rest.told_above;
+          sound_above = λ i h. each u r_is s rest.sound_above i h;
           line = omega (arith, rest.line);
           fault = elim rest.fault [ inl a ↦ inl (omega (arith, a.0), rw on a.1) | inr b ↦ inr (omega (arith, b.0), b.1, b.2) ];
         }
@@ -284,7 +295,13 @@ faulty q n m (l ∷ ls) t f n_is is = go (λ u h. faulty q (n + 1) (m + 1) ls u 
 first_fault : (q : ℕ) (ls : List (List ℕ)) (f : Fault) → Faulty q 0 ls nothing f → FirstFault q ls f
 first_fault q ls f g =
     let place : 0 + g.above ≡ g.above = omega arith in
-    record { above = g.above; told = g.told; told_above = by_lines q (take g.above ls) g.told g.told_above; line = omega (arith, g.line); fault = rw place at g.fault }
+    record { above = g.above; sound_above = each; told = g.told; told_above = by_lines q (take g.above ls) g.told g.told_above; line = omega (arith, g.line); fault = rw place at g.fault }
+  where
+    each : (i : ℕ) → i < g.above → Adds q ls i
+    each i h =
+        let x = g.sound_above i h in
+        let same : 0 + i ≡ i = omega arith in
+        (x.0, x.1, by_lines q (take i ls) x.0 x.2, rw same at x.3)
 
 pub fault_is_first : FaultIsFirst
 fault_is_first q ls f is = first_fault q ls f (faulty q 1 0 ls nothing f (omega arith) is)

@@ -40,10 +40,15 @@ pub record ByLines (q : ℕ) (ls : List (List ℕ)) (t : Told) : Type 0 where
   pub seed : filter_map (λ l. after_word Random (number_after Random) (words (bare l))) ls ≡ option_to_list t.seed
   pub entries : (k : Kind) → filter_map (λ x. entry_on q x.0 k (words (bare x.1))) (enumerate_from 0 ls) ≡ entries t k
 
--- f is the first fault of the lines ls: those above its line tell `told`, and its line is at fault below them; or no line
+-- line i, counted from 0, is not at fault: it adds to what the lines above it tell
+abbrev pub Adds : (q : ℕ) (ls : List (List ℕ)) (i : ℕ) → Type 0
+Adds q ls i = (t : Told) × (t' : Told) × ByLines q (take i ls) t × (statement q i t (words (bare (slice_index_or ls i []))) ≡ Ok t')
+
+-- f is the first fault of the lines ls: none above its line is at fault, those tell `told`, and its line is at fault below them; or no line
 -- is, and none tells how many cycles
 pub record FirstFault (q : ℕ) (ls : List (List ℕ)) (f : Fault) : Type 0 where
   pub above : ℕ
+  pub sound_above : (i : ℕ) → i < above → Adds q ls i
   pub told : Told
   pub told_above : ByLines q (take above ls) told
   pub line : f.line ≡ above + 1

@@ -129,8 +129,8 @@ pub fn told_by_lines() -> u8
     0
 }
 
-// A text with a fault has it first on its line: the lines above tell what they tell, and that line is at fault below
-// them.
+// A text with a fault has it first on its line: no line above is at fault, the lines above tell what they tell, and that
+// line is at fault below them.
 pub fn fault_is_first() -> u8
     ensures { FaultIsFirst }
 {
