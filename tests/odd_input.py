@@ -105,7 +105,7 @@ def check_pass(folder):
         path = folder.file("bad", text)
         status, out, err = run("pass", path)
         want = "pass: %s:%s" % (path, rest if line is None else "%d: %s" % (line, rest))
-        assert status == 1 and err.startswith(want) and err.count("\n") == 1, (text[:80], status, err[:200], want)
+        assert status == 2 and err.startswith(want) and err.count("\n") == 1, (text[:80], status, err[:200], want)
         same(out.count("\n"), 1 if text.startswith(GOOD) else 0, text[:80])
     for text, rest in REFUSED:
         status, out, err = run("pass", folder.file("bad", text))
@@ -115,7 +115,7 @@ def check_pass(folder):
     same(want[0], 0, "good")
     for n in range(len(GOOD) - 1):
         status, out, _ = run("pass", folder.file("cut", GOOD[:n]))
-        same((status, out), (1, ""), "cut at %d" % n)
+        same((status, out), (2, ""), "cut at %d" % n)
     for text in (GOOD[:-1], GOOD.replace(b"\n", b"\r\n"), GOOD.replace(b" ", b"\t "), b"# \xff\x00\n\n" + GOOD):
         same(run("pass", folder.file("other", text)), want, text)
     same(run("pass", "-", stdin=GOOD), want, "standard input")
@@ -139,12 +139,12 @@ def check_files(folder):
     for bad in (missing, folder.path):
         for program, arguments in (("pass", [bad]), ("bench", [bad, told]), ("bench", [good, bad])):
             status, out, err = run(program, *arguments)
-            assert status == 1 and out == "" and err.startswith("%s: %s: " % (program, bad)), (program, bad, out, err)
+            assert status == 2 and out == "" and err.startswith("%s: %s: " % (program, bad)), (program, bad, out, err)
     # The other files are answered for all the same.
     status, out, err = run("pass", missing, good)
-    assert status == 1 and out.startswith("c: passed") and err.startswith("pass: "), (status, out, err)
+    assert status == 2 and out.startswith("c: passed") and err.startswith("pass: "), (status, out, err)
     status, out, err = run("bench", good, told, "--vcd", os.path.join(missing, "v"))
-    assert status == 1 and out == "" and missing in err, (status, out, err)
+    assert status == 2 and out == "" and missing in err, (status, out, err)
 
 
 def check_bench(folder):
@@ -153,7 +153,7 @@ def check_bench(folder):
         path = folder.file("bad", text)
         status, out, err = run("bench", good, path)
         want = "bench: %s:%s" % (path, rest if line is None else "%d: %s" % (line, rest))
-        assert status == 1 and out == "" and err.startswith(want) and err.count("\n") == 1, (text, status, out, err)
+        assert status == 2 and out == "" and err.startswith(want) and err.count("\n") == 1, (text, status, out, err)
     dump = os.path.join(folder.path, "dump")
     for text, line, rest in OUTSIDE:
         status, out, err = run("bench", good, folder.file("bad", text), "--vcd", dump)
@@ -166,7 +166,7 @@ def check_bench(folder):
         status, out, err = run("bench", path, folder.file("told", TOLD))
         assert status == 1 and out.startswith("c: turned away by 10 at %d: " % place), (times, out, err)
     status, out, err = run("bench", folder.file("bad", GOOD + GOOD), folder.file("told", TOLD))
-    assert status == 1 and out == "" and ":6: expected just one circuit" in err, (out, err)
+    assert status == 2 and out == "" and ":6: expected just one circuit" in err, (out, err)
     status, out, err = run("bench", folder.file("bad", GOOD.replace(b"3 8 3 8", b"9 8 3 8")), folder.file("told", TOLD))
     assert status == 1 and out.startswith("c: turned away by 5 at 0: "), (out, err)
 
@@ -176,16 +176,16 @@ def check_arguments(folder):
     for program in ("pass", "bench"):
         for arguments in ([], ["--wrong"]):
             status, out, err = run(program, *arguments)
-            assert status == 1 and out == "" and "usage: %s" % program in err, (program, arguments, out, err)
+            assert status == 2 and out == "" and "usage: %s" % program in err, (program, arguments, out, err)
         for option in ("--help", "--version"):
             status, out, err = run(program, option)
             assert status == 0 and out != "" and err == "", (program, option)
     for arguments in ([good], [good, told, told], ["--trials", good, told], ["--trials", "0", good, told], [good, told, "--vcd"],
                       ["--vcd", "v", "--trials", "2", good, told], ["-", "-"]):
         status, out, err = run("bench", *arguments)
-        assert status == 1 and out == "" and "usage: bench" in err, (arguments, out, err)
+        assert status == 2 and out == "" and "usage: bench" in err, (arguments, out, err)
     status, out, err = run("bench", "--trials", "3", good, folder.file("none", b"cycles 2\n"))
-    assert status == 1 and out == "" and "random" in err, (out, err)
+    assert status == 2 and out == "" and "random" in err, (out, err)
     same(run("bench", "-", told, stdin=GOOD), run("bench", good, told), "standard input")
 
 
@@ -202,10 +202,10 @@ def check_long(folder):
     same((status, out, err), (0, "1 run of 300000 cycles, as drawn\n", ""), "--quiet")
     if os.path.exists("/dev/full"):
         status, out, err = run("bench", good, folder.file("told", TOLD), "--vcd", "/dev/full")
-        assert status == 1 and err.startswith("bench: /dev/full: "), (status, err)
+        assert status == 2 and err.startswith("bench: /dev/full: "), (status, err)
         with open("/dev/full", "w") as full:
             done = subprocess.run([path, good, folder.file("told", TOLD)], stdout=full, stderr=subprocess.PIPE)
-        assert done.returncode == 1 and done.stderr.startswith(b"bench: "), done
+        assert done.returncode == 2 and done.stderr.startswith(b"bench: "), done
 
 
 def check_limits(folder):
@@ -244,7 +244,7 @@ def check_memory(folder):
     # A fault far behind has its line.
     lines = one.count(b"\n")
     status, out, err = run("pass", folder.file("many", one * 9999 + b"circuit\nwire\n"))
-    assert status == 1 and out.count("\n") == 9999 and (":%d: expected a line that begins" % (lines * 9999 + 2)) in err, err
+    assert status == 2 and out.count("\n") == 9999 and (":%d: expected a line that begins" % (lines * 9999 + 2)) in err, err
     status, out, err = run("pass", folder.file("many", b"# nothing\n" * 299999 + b"circuit\ngate 0\nend"))
     assert status == 1 and out.startswith("turned away by 1 at 0: ") and out.endswith("(line 300001)\n"), out
 

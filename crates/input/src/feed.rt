@@ -33,10 +33,11 @@ fn whole(text: &[u8]) -> &[u8]
 // Reads on, until `kept` has so many bytes or the reader gives no more: then true.
 fn read_on<R: Read>(reader: &mut R, kept: &mut Vec<u8>, enough: usize) -> io::Result<bool>
     ensures { IfOk result (λ ended. ((more : List ℕ) × (vec_items kept.new ≡ vec_items kept.old ++ more) × Consumes (R.remaining reader.old) (R.remaining reader.new) more)
-        × (ended ≡ true → IsAtEnd (R.remaining reader.new))) }
+        × (ended ≡ true → IsAtEnd (R.remaining reader.new))
+        × (ended ≡ false → enough ≤ length (vec_items kept.new))) }
 {
     let mut piece = [0; PIECE];
-    for _ in 0..u64::MAX {
+    for turn in 0..u64::MAX {
         if kept.len() >= enough {
             break;
         }
@@ -111,7 +112,8 @@ impl<R: Read + Drop> Feed<R> {
         ensures { MatchResult result
             (λ _. (self.new.from ≡ 0)
             × ((more : List ℕ) × (vec_items self.new.kept ≡ drop self.old.from (vec_items self.old.kept) ++ more) × Consumes (R.remaining self.old.reader) (R.remaining self.new.reader) more)
-            × (self.new.ended ≡ true → IsAtEnd (R.remaining self.new.reader)))
+            × (self.new.ended ≡ true → IsAtEnd (R.remaining self.new.reader))
+            × (self.new.ended ≡ false → LEAST ≤ length (vec_items self.new.kept)))
             (λ _. (self.new.kept ≡ self.old.kept) × (self.new.from ≡ self.old.from) × (self.new.ended ≡ self.old.ended)) }
     {
         let mut kept = Vec::from_slice(self.heap, self.needed())?;

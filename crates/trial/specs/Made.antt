@@ -1,5 +1,5 @@
 -- What a run gives, cycle by cycle.
-use Rattle.std.specs.Prelude.{◌≡◌, ℕ, suc, ◌<◌, Bool, true, false, List, length, Ok, Err, Result}
+use Rattle.std.specs.Prelude.{◌≡◌, ℕ, suc, ◌<◌, ◌≤◌, Bool, true, false, List, length, Ok, Err, Result}
 use Rattle.circuit.specs.Filled.{Filled}
 use Rattle.circuit.specs.Checked.{of, registers_of}
 use Rattle.circuit.specs.declared.refusal.Refusal.{Refusal}
@@ -57,8 +57,9 @@ pub record CycleDone (y y' : Trial) (before after : List Bool) : Type 0 where
   pub bits : Filled false (registers_of y.bench.circuit) (run_bits (machine_of y) (told_to y) (suc y.done)) before after
   pub drawn : Passed (machine_of y) → (q : ℕ) → q < registers_of y.bench.circuit → run_bits (machine_of y) (told_to y) (suc y.done) q ≡ drawing (machine_of y) (told_to y).start (suc y.done) q
 
--- the answer to the call for the next cycle
+-- the answer to the call for the next cycle: it is done, or all are that the script asks for, and in both cases there was room; or room for too few
+-- bits is refused
 abbrev pub CycleAnswer : (y y' : Trial) (before after : List Bool) → Result Bool Refusal → Type 0
-CycleAnswer y y' before after (Ok true) = (y.done < y.bench.script.now.cycles) × CycleDone y y' before after
-CycleAnswer y y' before after (Ok false) = (y.done ≡ y.bench.script.now.cycles) × (y' ≡ y) × (after ≡ before)
+CycleAnswer y y' before after (Ok true) = (registers_of y.bench.circuit ≤ length before) × (y.done < y.bench.script.now.cycles) × CycleDone y y' before after
+CycleAnswer y y' before after (Ok false) = (registers_of y.bench.circuit ≤ length before) × (y.done ≡ y.bench.script.now.cycles) × (y' ≡ y) × (after ≡ before)
 CycleAnswer y y' before after (Err e) = (e ≡ NoRoom (registers_of y.bench.circuit)) × (length before < registers_of y.bench.circuit) × (y' ≡ y) × (after ≡ before)

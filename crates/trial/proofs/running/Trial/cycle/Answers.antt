@@ -17,4 +17,4 @@ returns c =
     let z = c.step.new.self in
     let same : SameCycle y z = same_through c.loop.invariant c.step.ensures.cycle_same in
     let over = c.loop-test.ensures.over refl in
-    (omega arith, cycle_is_done y z _ _ _ same (over.0 ∙ over.1 ∙ sym c.step.ensures.cycle_same.ends_same) refl refl refl (rw c.register_count-n.ensures at c.copy_bits.ensures))
+    (omega arith, omega arith, cycle_is_done y z _ _ _ same (over.0 ∙ over.1 ∙ sym c.step.ensures.cycle_same.ends_same) refl refl refl (rw c.register_count-n.ensures at c.copy_bits.ensures))
