@@ -8,7 +8,7 @@ pub invariant_of-self-2 : goal.invariant_of-self-2
 invariant_of-self-2 c =
     let y = c.args.self.now in
     let z = c.cycle.new.self in
-    let done = (rw (c.in-Ok-true.field-0-test, c.deref_mut.ensures.value) at c.in-Ok-true.ensures).1.1 in
+    let done = (rw (c.in-Ok-true.field-0-test, c.deref_mut.ensures.value) at c.in-Ok-true.ensures).2 in
     let held = with_items_is y.held c.cycle.new.bits (omega arith) in
     let drawn = with_items_is y.drawn c.cycle-2.new.bits (omega arith) in
     let signals = with_items_is y.signals c.cycle-2.new.signals (omega arith) in
@@ -26,7 +26,7 @@ pub returns : goal.returns
 returns c =
     let y = c.args.self.now in
     let z = c.cycle.new.self in
-    let done = (rw (c.in-Ok-true.field-0-test, c.deref_mut.ensures.value) at c.in-Ok-true.ensures).1 in
+    let done = rw (c.in-Ok-true.field-0-test, c.deref_mut.ensures.value) at c.in-Ok-true.ensures in
     let b : c.bench.result.circuit ≡ z.bench.circuit = ap (λ (b : Bench). b.circuit) c.bench.ensures in
-    let went = (goes_on y z done.1.bench_same c.bench.result.circuit b _ _ _ _ c.cycle-2.result c.deref_mut-2.ensures.value c.deref_mut-3.ensures.value c.cycle-2.ensures).0 in
-    rw (c.is_ok.ensures.value ∙ went) (done.0, watched y _ _ _ done.1)
+    let went = (goes_on y z done.2.bench_same c.bench.result.circuit b _ _ _ _ c.cycle-2.result c.deref_mut-2.ensures.value c.deref_mut-3.ensures.value c.cycle-2.ensures).0 in
+    rw (c.is_ok.ensures.value ∙ went) (done.1, watched y _ _ _ done.2)
