@@ -1,5 +1,5 @@
 -- The report on a circuit, with what is found of it.
-use Rattle.std.specs.Prelude.{◌≡◌, true, false, List, ℕ, Unit, Result, String, MatchResult}
+use Rattle.std.specs.Prelude.{◌≡◌, true, false, List, ℕ, Result, String, MatchResult}
 use Rattle.std.specs.List.{list_all}
 use Rattle.std.specs.String.{string_bytes}
 use Rattle.circuit.specs.Checked.{of}
