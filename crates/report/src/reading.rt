@@ -1,5 +1,5 @@
 // Reports, read.
-ghost use Rattle.std.specs.Prelude.{◌≡◌, [], length};
+ghost use Rattle.std.specs.Prelude.{◌≡◌, []};
 ghost use Rattle.lines.specs.Words.{words, lines};
 ghost use Rattle.report.specs.Meaning.{said, claims_from, first_report};
 ghost use Rattle.report.specs.Read.{WereRead, IsRead};
@@ -47,7 +47,7 @@ impl Said {
 
 // The claims up to the report's end.
 fn claims<'a>(heap: Global, draft: Draft, mut rest: Lines<'a>) -> Result<Report<'a>, Fault>
-    ensures { WereRead (claims_from rest.entry.number [] (lines rest.entry.text.now)) (drafted draft) (length rest.entry.text.now) result }
+    ensures { WereRead (claims_from rest.entry.number [] (lines rest.entry.text.now)) (drafted draft) rest.entry.text.now result }
 {
     let mut claims = Vec::new(heap);
     while let Some((line, text)) = rest.next() {
@@ -72,7 +72,7 @@ fn claims<'a>(heap: Global, draft: Draft, mut rest: Lines<'a>) -> Result<Report<
 
 // The first report of a text, None where there is no circuit any more; lines are counted from 1.
 pub fn read<'a>(heap: Global, text: &'a [u8]) -> Result<Option<Report<'a>>, Fault>
-    ensures { IsRead (first_report 1 (lines text.now)) (length text.now) result }
+    ensures { IsRead (first_report 1 (lines text.now)) text.now result }
 {
     let Some(text::Read { draft, rest }) = text::read(heap, text)? else {
         return Ok(None);
