@@ -1,10 +1,13 @@
 // What is said of a circuit that was read.
 #![tactic(auto)]
 
-ghost use Rattle.std.specs.Prelude.{◌≡◌, IfOk, IfSome, is_some, vec_items};
+ghost use Rattle.std.specs.Prelude.{◌≡◌, IfOk, IfSome, is_some, codes, vec_items, string_bytes};
 ghost use Rattle.std.specs.Option.{unwrap_or};
 ghost use Rattle.slack.specs.Margin.{AreSmallest};
 ghost use Rattle.text.specs.Meaning.{drafted};
+ghost use Rattle.wording.specs.Line.{StandsBehind};
+ghost use Rattle.wording.specs.Words.{titled};
+ghost use Rattle.answer.specs.Line.{LineSays};
 ghost use Rattle.answer.specs.Said.{machine_of, PassedIf, PeriodIf, RefusedFirst, Taken, behind, line_about, TurnedAwayIf};
 
 use circuit::{Circuit, MOST_GATES, Numbers};
@@ -98,6 +101,7 @@ impl Source<'_> {
     // What is said of a circuit that is not turned away.
     fn judge(self, heap: Global) -> Result<Said, fmt::Error>
         requires { Taken (drafted self.draft.now) }
+        ensures line { IfOk result (λ a. LineSays (titled (vec_items self.entry.draft.now.name)) a.margins (string_bytes a.line)) }
         ensures passed { IfOk result (λ a. PassedIf (drafted self.entry.draft.now) (is_some a.margins)) }
         ensures margins { IfOk result (λ a. IfSome a.margins (AreSmallest (machine_of (drafted self.entry.draft.now)))) }
     {
@@ -125,6 +129,7 @@ impl Source<'_> {
 
 // What is said of a circuit that was read. `text` is what it was read from, and `before` the number of lines before that.
 pub fn answer(heap: Global, draft: &Draft, text: &[u8], before: usize) -> Result<Said, fmt::Error>
+    ensures line { IfOk result (λ a. LineSays (titled (vec_items draft.now.name)) a.margins (string_bytes a.line)) }
     ensures passed { IfOk result (λ a. PassedIf (drafted draft.now) (is_some a.margins)) }
     ensures margins { IfOk result (λ a. IfSome a.margins (AreSmallest (machine_of (drafted draft.now)))) }
 {
@@ -163,7 +168,8 @@ pub fn turned_away(
     text: &[u8],
     before: usize,
 ) -> Result<Option<String>, fmt::Error>
-    ensures { IfOk result (λ line. TurnedAwayIf (drafted draft.now) (is_some line)) }
+    ensures line { IfOk result (λ line. IfSome line (λ t. StandsBehind (titled (vec_items draft.now.name)) (codes "turned away by ") (string_bytes t))) }
+    ensures away { IfOk result (λ line. TurnedAwayIf (drafted draft.now) (is_some line)) }
 {
     let Some(refused) = refused(draft, text, before) else {
         return Ok(None);

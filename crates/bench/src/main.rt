@@ -70,11 +70,11 @@ fn tell_refusal(
     let refused = TurnedAway { refusal, why };
     match why {
         Why::Line(line, _) => println!(rt;
-            "{}{refused} (line {})",
+            "{}turned away by {refused} (line {})",
             Title(name),
             line.saturating_add(1)
         )?,
-        _ => println!(rt; "{}{refused}", Title(name))?,
+        _ => println!(rt; "{}turned away by {refused}", Title(name))?,
     }
     Ok(())
 }

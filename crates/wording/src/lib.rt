@@ -1,16 +1,18 @@
 // The words on a circuit.
 #![tactic(auto)]
 
-ghost use Rattle.std.specs.Prelude.{◌≡◌, ℕ, List};
+ghost use Rattle.std.specs.Prelude.{◌≡◌, ℕ, List, Some, IfOk, OnOk, string_bytes};
 ghost use Rattle.std.specs.Borrow.{Bor};
 ghost use Rattle.text.specs.Meaning.{refusal_of};
+ghost use Rattle.wording.specs.Line.{LineOf, StandsBehind};
+ghost use Rattle.wording.specs.Words.{titled, margins};
 ghost use Rattle.wording.specs.declared.Why.TheVariants.{Miscount};
 
 use circuit::Refusal;
 use detail::Detail;
 use signoff::Miss;
 use slack::Smallest;
-use std::alloc::Global;
+use std::alloc::{AllocError, Global};
 use std::fmt;
 use std::fmt::Write;
 use text::Part;
@@ -20,6 +22,8 @@ use text::Part;
 pub struct Title<'a>(pub &'a [u8]);
 
 impl fmt::Display for Title<'_> {
+    ghost output = { λ t. Some (titled t.0.now) };
+
     fn fmt<W: fmt::Write>(&self, f: &mut fmt::Formatter<W>) -> fmt::Result {
         if self.0.is_empty() {
             return Ok(());
@@ -31,7 +35,7 @@ impl fmt::Display for Title<'_> {
     }
 }
 
-// A refusal, and why it applies.
+// A refusal, and why it applies: what stands behind `turned away by`.
 #[derive(Clone, Copy)]
 pub struct TurnedAway<D> {
     pub refusal: Refusal,
@@ -88,7 +92,7 @@ impl TurnedAway<Why> {
 impl<D: fmt::Display> fmt::Display for TurnedAway<D> {
     fn fmt<W: fmt::Write>(&self, f: &mut fmt::Formatter<W>) -> fmt::Result {
         let (number, place) = (self.refusal.number(), self.refusal.place());
-        write!(f, "turned away by {number} at {place}: {}", self.why)
+        write!(f, "{number} at {place}: {}", self.why)
     }
 }
 
@@ -118,6 +122,8 @@ impl fmt::Display for Missed<'_> {
 struct Margins(Smallest);
 
 impl fmt::Display for Margins {
+    ghost output = { λ m. Some (margins m.0) };
+
     fn fmt<W: fmt::Write>(&self, f: &mut fmt::Formatter<W>) -> fmt::Result {
         write!(
             f,
@@ -133,7 +139,7 @@ struct Shortest(u64);
 
 impl fmt::Display for Shortest {
     fn fmt<W: fmt::Write>(&self, f: &mut fmt::Formatter<W>) -> fmt::Result {
-        write!(f, "shortest period {}", self.0)?;
+        write!(f, "{}", self.0)?;
         match slack::frequency(self.0) {
             Some(thousandths) => write!(
                 f,
@@ -159,25 +165,43 @@ pub enum Word<'a> {
     Shortest(u64),
 }
 
-impl fmt::Display for Word<'_> {
-    fn fmt<W: fmt::Write>(&self, f: &mut fmt::Formatter<W>) -> fmt::Result {
-        match *self {
-            Word::Passed(smallest) => write!(f, "passed, {}", Margins(smallest)),
-            Word::TooLate(missed) => write!(f, "too late {missed}"),
-            Word::TooEarly(missed) => write!(f, "too early {missed}"),
-            Word::TurnedAway(refused) => write!(f, "{refused}"),
-            Word::NoRoom(refusal) => {
-                let why = "room is too short";
-                write!(f, "{}", TurnedAway { refusal, why })
-            }
-            Word::Shortest(period) => write!(f, "{}", Shortest(period)),
+// A word, what it is about and the line's end, put behind what a line says already.
+fn put<D: fmt::Display + Drop>(
+    heap: Global,
+    line: &mut String,
+    word: &str,
+    what: D,
+) -> Result<(), AllocError>
+    ensures { OnOk result (StandsBehind (string_bytes line.old) word.now (string_bytes line.new)) }
+{
+    // No clause says what is printed of it, so that it is written apart from what is known of the line.
+    let what = format!(in heap; "{what}")?;
+    writeln!(line, "{word}{what}")
+}
+
+// The word on a circuit and the line's end, put behind what a line says already.
+fn put_word(heap: Global, line: &mut String, word: Word<'_>) -> Result<(), AllocError>
+    ensures { OnOk result (LineOf (string_bytes line.old) word.entry (string_bytes line.new)) }
+{
+    match word {
+        Word::Passed(smallest) => writeln!(line, "passed, {}", Margins(smallest)),
+        Word::TooLate(missed) => put(heap, line, "too late ", missed),
+        Word::TooEarly(missed) => put(heap, line, "too early ", missed),
+        Word::TurnedAway(refused) => put(heap, line, "turned away by ", refused),
+        Word::NoRoom(refusal) => {
+            let why = "room is too short";
+            put(heap, line, "turned away by ", TurnedAway { refusal, why })
         }
+        Word::Shortest(period) => put(heap, line, "shortest period ", Shortest(period)),
     }
 }
 
 // The line on a circuit of this name.
-pub fn line(heap: Global, name: &[u8], word: Word<'_>) -> Result<String, fmt::Error> {
+pub fn line(heap: Global, name: &[u8], word: Word<'_>) -> Result<String, fmt::Error>
+    ensures { IfOk result (λ t. LineOf (titled name.now) word.entry (string_bytes t)) }
+{
     let mut line = String::new(heap);
-    writeln!(line, "{}{word}", Title(name))?;
+    write!(line, "{}", Title(name))?;
+    put_word(heap, &mut line, word)?;
     Ok(line)
 }

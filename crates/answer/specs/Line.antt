@@ -1,0 +1,10 @@
+-- What the line says that is printed of a circuit.
+use Rattle.std.specs.Prelude.{◌≡◌, ℕ, ◌⊎◌, List, [], ◌∷◌, ◌++◌, Some, None, Option, codes}
+use Rattle.slack.specs.declared.worst.Smallest.{Smallest}
+use Rattle.wording.specs.Line.{StandsBehind}
+use Rattle.wording.specs.Words.{margins}
+
+-- behind its front a line t says that a circuit is passed, and just these margins; or, with none, goes on with another word
+abbrev pub LineSays : (front : List ℕ) → Option Smallest → (t : List ℕ) → Type 0
+LineSays front (Some s) t = t ≡ front ++ (codes "passed, " ++ (margins s ++ (10 ∷ [])))
+LineSays front None t = StandsBehind front (codes "too late ") t ⊎ StandsBehind front (codes "too early ") t ⊎ StandsBehind front (codes "turned away by ") t
