@@ -180,6 +180,9 @@ def check_arguments(folder):
         for option in ("--help", "--version"):
             status, out, err = run(program, option)
             assert status == 0 and out != "" and err == "", (program, option)
+    for arguments in (["--json", "--period", good], ["--report", good, "--paths"]):
+        status, out, err = run("pass", *arguments)
+        assert status == 2 and out == "" and "exclude one another" in err and "usage: pass" in err, (arguments, out, err)
     for arguments in ([good], [good, told, told], ["--trials", good, told], ["--trials", "0", good, told], [good, told, "--vcd"],
                       ["--vcd", "v", "--trials", "2", good, told], ["-", "-"]):
         status, out, err = run("bench", *arguments)
