@@ -10,19 +10,15 @@ ghost use Rattle.wording.specs.Words.{titled};
 ghost use Rattle.answer.specs.Line.{LineSays};
 ghost use Rattle.answer.specs.Said.{machine_of, PassedIf, PeriodIf, RefusedFirst, Taken, behind, line_about, TurnedAwayIf};
 
-use circuit::{Circuit, MOST_GATES, Numbers};
+use circuit::{Circuit, Numbers};
 use detail::Detail;
-use signoff::Verdict;
+use signoff::{LONGEST_PATH, Verdict};
 use slack::Smallest;
 use std::alloc::Global;
 use std::fmt;
 use text::Draft;
 use wording::{Missed, Word};
 pub use wording::{Refused, Title, TurnedAway, Why};
-
-// As many numbers as a path can have: a register, and two for each gate. The array for them is on the stack, and is lent
-// to `signoff::pass`.
-const LONGEST_PATH: usize = 1 + 2 * MOST_GATES;
 
 // The line that is said of a circuit, and where it is passed the smallest margins, which the line tells.
 #[derive(Drop)]
@@ -107,18 +103,18 @@ impl Source<'_> {
     {
         let draft = self.draft;
         let mut room = [0; LONGEST_PATH];
-        let verdict = signoff::pass(&draft.gates, &draft.registers, &draft.times, &mut room);
+        let circuit = taken(draft);
+        let verdict = signoff::verdict_on(circuit, &mut room);
         let room = &room;
         let word = match verdict {
-            Ok(Verdict::Passed) => {
-                let smallest = slack::smallest(taken(draft));
+            Verdict::Passed => {
+                let smallest = slack::smallest(circuit);
                 let line = wording::line(heap, &draft.name, Word::Passed(smallest))?;
                 let margins = Some(smallest);
                 return Ok(Said { line, margins });
             }
-            Ok(Verdict::TooLate(miss)) => Word::TooLate(Missed { miss, room }),
-            Ok(Verdict::TooEarly(miss)) => Word::TooEarly(Missed { miss, room }),
-            Err(refusal) => Word::NoRoom(refusal),
+            Verdict::TooLate(miss) => Word::TooLate(Missed { miss, room }),
+            Verdict::TooEarly(miss) => Word::TooEarly(Missed { miss, room }),
         };
         Ok(Said {
             line: wording::line(heap, &draft.name, word)?,

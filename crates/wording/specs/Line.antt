@@ -1,7 +1,7 @@
 -- What the line on a circuit says.
 use Rattle.std.specs.Prelude.{◌≡◌, ℕ, List, [], ◌∷◌, ◌++◌, codes}
 use Rattle.wording.specs.declared.Word.{Word}
-use Rattle.wording.specs.declared.Word.TheVariants.{Passed, TooLate, TooEarly, TurnedAway, NoRoom, Shortest}
+use Rattle.wording.specs.declared.Word.TheVariants.{Passed, TooLate, TooEarly, TurnedAway, Shortest}
 use Rattle.wording.specs.Words.{margins}
 
 -- w stands behind the front of the line t
@@ -14,5 +14,4 @@ LineOf front (Passed s) t = t ≡ front ++ (codes "passed, " ++ (margins s ++ (1
 LineOf front (TooLate miss) t = StandsBehind front (codes "too late ") t
 LineOf front (TooEarly miss) t = StandsBehind front (codes "too early ") t
 LineOf front (TurnedAway refused) t = StandsBehind front (codes "turned away by ") t
-LineOf front (NoRoom refusal) t = StandsBehind front (codes "turned away by ") t
 LineOf front (Shortest period) t = StandsBehind front (codes "shortest period ") t

@@ -159,8 +159,6 @@ pub enum Word<'a> {
     TooLate(Missed<'a>),
     TooEarly(Missed<'a>),
     TurnedAway(Refused),
-    // All that was left to refuse was the room for a path.
-    NoRoom(Refusal),
     // Its shortest period.
     Shortest(u64),
 }
@@ -188,10 +186,6 @@ fn put_word(heap: Global, line: &mut String, word: Word<'_>) -> Result<(), Alloc
         Word::TooLate(missed) => put(heap, line, "too late ", missed),
         Word::TooEarly(missed) => put(heap, line, "too early ", missed),
         Word::TurnedAway(refused) => put(heap, line, "turned away by ", refused),
-        Word::NoRoom(refusal) => {
-            let why = "room is too short";
-            put(heap, line, "turned away by ", TurnedAway { refusal, why })
-        }
         Word::Shortest(period) => put(heap, line, "shortest period ", Shortest(period)),
     }
 }
