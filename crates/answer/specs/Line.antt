@@ -4,6 +4,11 @@ use Rattle.slack.specs.declared.worst.Smallest.{Smallest}
 use Rattle.wording.specs.Line.{StandsBehind}
 use Rattle.wording.specs.Words.{margins}
 
+-- behind its front a line t tells a shortest period; or, with none, that the circuit is turned away
+abbrev pub PeriodLine : (front : List ℕ) → Option ℕ → (t : List ℕ) → Type 0
+PeriodLine front (Some p) t = StandsBehind front (codes "shortest period ") t
+PeriodLine front None t = StandsBehind front (codes "turned away by ") t
+
 -- behind its front a line t says that a circuit is passed, and just these margins; or, with none, goes on with another word
 abbrev pub LineSays : (front : List ℕ) → Option Smallest → (t : List ℕ) → Type 0
 LineSays front (Some s) t = t ≡ front ++ (codes "passed, " ++ (margins s ++ (10 ∷ [])))

@@ -10,6 +10,7 @@ use Rattle.lines.specs.Words.{lines}
 use Rattle.reason.specs.Reason.{TrueOf}
 use Rattle.text.specs.Meaning.{Drafted, refusal_of, line_of}
 use Rattle.text.specs.declared.draft.Miscount.{Miscount}
+use Rattle.wording.specs.Words.{miscount_words}
 use Rattle.wording.specs.declared.Refused.{Refused}
 use Rattle.wording.specs.declared.Why.{Why}
 use Rattle.wording.specs.declared.Why.TheVariants as why
@@ -44,7 +45,7 @@ behind before n = min (n + before) (2 ^ 64 - 1)
 -- such line, e is the first of the list that applies to the numbers, the detail is one of e and true of them, and the line
 -- that is told is the one that it is about, or else the one on which the circuit began
 abbrev pub FirstOf : Drafted → (t : List ℕ) (before : ℕ) → (e : Refusal) → (line : ℕ) → Why → Type 0
-FirstOf d t before e line (why.Miscount words) = (m : Miscount) × (d.miscount ≡ Some m) × (e ≡ refusal_of m.part) × (line ≡ behind before m.line)
+FirstOf d t before e line (why.Miscount words) = (m : Miscount) × (d.miscount ≡ Some m) × (e ≡ refusal_of m.part) × (words.now ≡ miscount_words m.part) × (line ≡ behind before m.line)
 FirstOf d t before e line (why.Detail x) =
     (d.miscount ≡ None) × FirstRefusal d.gates d.registers d.times e × TrueOf d.gates d.registers d.times e x
     × (line ≡ behind before (unwrap_or (line_about t x) d.line))

@@ -7,7 +7,7 @@ ghost use Rattle.slack.specs.Margin.{AreSmallest};
 ghost use Rattle.text.specs.Meaning.{drafted};
 ghost use Rattle.wording.specs.Line.{StandsBehind};
 ghost use Rattle.wording.specs.Words.{titled};
-ghost use Rattle.answer.specs.Line.{LineSays};
+ghost use Rattle.answer.specs.Line.{LineSays, PeriodLine};
 ghost use Rattle.answer.specs.Said.{machine_of, PassedIf, PeriodIf, RefusedFirst, Taken, behind, line_about, TurnedAwayIf};
 
 use circuit::{Circuit, Numbers};
@@ -176,7 +176,8 @@ pub fn turned_away(
 
 // What is said of a circuit's shortest period, and of the frequency that it allows; the rest is as for `answer`.
 pub fn period(heap: Global, draft: &Draft, text: &[u8], before: usize) -> Result<Paced, fmt::Error>
-    ensures { IfOk result (λ a. PeriodIf (drafted draft.now) a.period) }
+    ensures line { IfOk result (λ a. PeriodLine (titled (vec_items draft.now.name)) a.period (string_bytes a.line)) }
+    ensures period { IfOk result (λ a. PeriodIf (drafted draft.now) a.period) }
 {
     if let Some(refused) = refused(draft, text, before) {
         return Ok(Paced {

@@ -1,5 +1,5 @@
 // A text that is read piece by piece.
-ghost use Rattle.std.specs.Prelude.{◌≡◌, ℕ, ◌+◌, ◌≤◌, min, false, true, IfOk, MatchResult, List, [], ◌++◌, drop, length, vec_items};
+ghost use Rattle.std.specs.Prelude.{◌≡◌, ℕ, ◌+◌, ◌*◌, ◌≤◌, min, false, true, IfOk, MatchResult, List, [], ◌++◌, drop, length, vec_items};
 ghost use Rattle.std.specs.Io.KnownBytes.{Consumes, IsAtEnd};
 ghost use Rattle.input.specs.Pieces.{whole, handed_out};
 ghost use Rattle.lines.specs.Words.{inline};
@@ -62,7 +62,7 @@ pub struct Feed<R: Drop> {
 
 impl<R: Read + Drop> Feed<R> {
     pub fn new(heap: Global, reader: R) -> Self
-        ensures { (vec_items result.kept ≡ []) × (result.from ≡ 0) × (result.ended ≡ false) }
+        ensures { (vec_items result.kept ≡ []) × (result.from ≡ 0) × (result.ended ≡ false) × (result.reader ≡ reader.entry) }
     {
         Feed {
             heap,
@@ -101,7 +101,7 @@ impl<R: Read + Drop> Feed<R> {
     // So many bytes more are not needed.
     pub fn skip(&mut self, n: usize)
         ensures from { self.new.from ≡ min (self.old.from + n) (length (vec_items self.old.kept)) }
-        ensures kept { (self.new.kept ≡ self.old.kept) × (self.new.ended ≡ self.old.ended) }
+        ensures kept { (self.new.kept ≡ self.old.kept) × (self.new.ended ≡ self.old.ended) × (self.new.reader ≡ self.old.reader) }
     {
         self.from = self.from.saturating_add(n).min(self.kept.len());
     }
@@ -113,7 +113,7 @@ impl<R: Read + Drop> Feed<R> {
             (λ _. (self.new.from ≡ 0)
             × ((more : List ℕ) × (vec_items self.new.kept ≡ drop self.old.from (vec_items self.old.kept) ++ more) × Consumes (R.remaining self.old.reader) (R.remaining self.new.reader) more)
             × (self.new.ended ≡ true → IsAtEnd (R.remaining self.new.reader))
-            × (self.new.ended ≡ false → LEAST ≤ length (vec_items self.new.kept)))
+            × (self.new.ended ≡ false → (LEAST ≤ length (vec_items self.new.kept)) × (2 * length (drop self.old.from (vec_items self.old.kept)) ≤ length (vec_items self.new.kept))))
             (λ _. (self.new.kept ≡ self.old.kept) × (self.new.from ≡ self.old.from) × (self.new.ended ≡ self.old.ended)) }
     {
         let mut kept = Vec::from_slice(self.heap, self.needed())?;

@@ -47,9 +47,9 @@ pub record SameCycle (y y' : Trial) : Type 0 where
 pub record Stepped (y y' : Trial) (went : Bool) : Type 0 where
   pub cycle_same : SameCycle y y'
   pub on : went ≡ true → y'.moment ≡ suc y.moment
-  pub over : went ≡ false → (y'.moment ≡ y.moment) × (y.moment ≡ y.ends)
+  pub over : went ≡ false → (y' ≡ y) × (y.moment ≡ y.ends)
 
--- THE NEXT CYCLE of a run: one more is done, the run is at its end and no moment further, and the bits lent are those that the registers hold in it, in the run that the script tells; of a passed machine these are the drawing's
+-- THE NEXT CYCLE of a run: one more is done, the run is at that cycle's end and no moment further, and the bits lent are those that the registers hold in it, in the run that the script tells; of a passed machine these are the drawing's
 pub record CycleDone (y y' : Trial) (before after : List Bool) : Type 0 where
   pub bench_same : y'.bench ≡ y.bench
   pub one_more : y'.done ≡ suc y.done

@@ -18,7 +18,7 @@ pub record WentOn (y y' : Watch) (went : Bool) : Type 0 where
   pub stepped : Stepped y.trial y'.trial went
   pub bits_same : SameBits y y'
 
--- ONE MORE CYCLE: the run is at its end and no moment further, the bits are those that the registers hold in it, in the run that the script tells, and those of the drawing; of a passed machine they are the same
+-- ONE MORE CYCLE: the run is at that cycle's end and no moment further, the bits are those that the registers hold in it, in the run that the script tells, and those of the drawing; of a passed machine they are the same
 pub record Watched (y y' : Watch) : Type 0 where
   pub bench_same : y'.trial.bench ≡ y.trial.bench
   pub one_more : y'.trial.done ≡ suc y.trial.done

@@ -5,7 +5,7 @@ ghost use Rattle.std.specs.Prelude.{◌≡◌, ℕ, List, Some, IfOk, OnOk, stri
 ghost use Rattle.std.specs.Borrow.{Bor};
 ghost use Rattle.text.specs.Meaning.{refusal_of};
 ghost use Rattle.wording.specs.Line.{LineOf, StandsBehind};
-ghost use Rattle.wording.specs.Words.{titled, margins};
+ghost use Rattle.wording.specs.Words.{titled, margins, miscount_words};
 ghost use Rattle.wording.specs.declared.Why.TheVariants.{Miscount};
 
 use circuit::Refusal;
@@ -75,7 +75,7 @@ impl fmt::Display for Refused {
 impl TurnedAway<Why> {
     // For a line of a part that has another count of numbers than it should.
     pub fn miscounted(part: Part) -> Self
-        ensures { (result.refusal ≡ refusal_of part) × ((words : Bor (List ℕ)) × (result.why ≡ Miscount words)) }
+        ensures { (result.refusal ≡ refusal_of part) × ((words : Bor (List ℕ)) × (result.why ≡ Miscount words) × (words.now ≡ miscount_words part)) }
     {
         let why = Why::Miscount(match part {
             Part::Gates => "a gate has 7 numbers",

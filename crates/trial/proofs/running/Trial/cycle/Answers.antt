@@ -1,4 +1,4 @@
-use Rattle.std.proofs.Common.{sym, refl, ◌∙◌, arith}
+use Rattle.std.proofs.Common.{sym, refl, ap, ◌∙◌, arith}
 use Rattle.trial.specs.Made.{SameCycle}
 use Rattle.trial.proofs.Runs.{same_through, same_cycles, end_small, cycle_is_done}
 use Rattle.trial.proofs.running.Trial.cycle.Goals as goal
@@ -17,4 +17,4 @@ returns c =
     let z = c.step.new.self in
     let same : SameCycle y z = same_through c.loop.invariant c.step.ensures.cycle_same in
     let over = c.loop-test.ensures.over refl in
-    (omega arith, omega arith, cycle_is_done y z _ _ _ same (over.0 ∙ over.1 ∙ sym c.step.ensures.cycle_same.ends_same) refl refl refl (rw c.register_count-n.ensures at c.copy_bits.ensures))
+    (omega arith, omega arith, cycle_is_done y z _ _ _ same (ap (λ t. t.moment) over.0 ∙ over.1 ∙ sym c.step.ensures.cycle_same.ends_same) refl refl refl (rw c.register_count-n.ensures at c.copy_bits.ensures))
