@@ -1,5 +1,5 @@
 // A text that is read piece by piece.
-ghost use Rattle.std.specs.Prelude.{◌≡◌, ℕ, ◌+◌, ◌*◌, ◌≤◌, min, false, true, IfOk, MatchResult, List, [], ◌++◌, drop, length, vec_items};
+ghost use Rattle.std.specs.Prelude.{◌≡◌, ℕ, ◌+◌, ◌<◌, ◌≤◌, min, false, true, IfOk, MatchResult, List, [], ◌++◌, drop, length, vec_items};
 ghost use Rattle.std.specs.Io.KnownBytes.{Consumes, IsAtEnd};
 ghost use Rattle.input.specs.Pieces.{whole, handed_out};
 ghost use Rattle.lines.specs.Words.{inline};
@@ -12,7 +12,7 @@ use std::io::Read;
 // As many bytes are read at once.
 const PIECE: usize = 65_536;
 
-// At least as many are kept, where the text has them, so that a circuit is seldom read twice.
+// As many are kept of a text that is there at once, so that a circuit is seldom read twice.
 const LEAST: usize = 1_048_576;
 
 // How many bytes follow the last newline.
@@ -30,22 +30,30 @@ fn whole(text: &[u8]) -> &[u8]
     &text[..text.len() - open_line(text)]
 }
 
-// Reads on, until `kept` has so many bytes or the reader gives no more: then true.
-fn read_on<R: Read>(reader: &mut R, kept: &mut Vec<u8>, enough: usize) -> io::Result<bool>
+// Whether so many bytes are enough to look at, where so many were needed before, and the last read gave so many: of a text
+// that comes bit by bit what is there, if it is short; else as many again as were needed, and as many as are there at once.
+fn is_enough(kept: usize, needed: usize, last: usize) -> bool {
+    let paused = last < PIECE;
+    paused && kept <= PIECE || kept >= needed.saturating_mul(2) && (paused || kept >= LEAST)
+}
+
+// Reads on, until `kept` has enough or the reader gives no more: then true.
+fn read_on<R: Read>(reader: &mut R, kept: &mut Vec<u8>) -> io::Result<bool>
     ensures { IfOk result (λ ended. ((more : List ℕ) × (vec_items kept.new ≡ vec_items kept.old ++ more) × Consumes (R.remaining reader.old) (R.remaining reader.new) more)
         × (ended ≡ true → IsAtEnd (R.remaining reader.new))
-        × (ended ≡ false → enough ≤ length (vec_items kept.new))) }
+        × (ended ≡ false → length (vec_items kept.old) < length (vec_items kept.new))) }
 {
+    let needed = kept.len();
     let mut piece = [0; PIECE];
     for turn in 0..u64::MAX {
-        if kept.len() >= enough {
-            break;
-        }
         let n = reader.read(&mut piece)?;
         if n == 0 {
             return Ok(true);
         }
         kept.extend_from_slice(&piece[..n])?;
+        if is_enough(kept.len(), needed, n) {
+            break;
+        }
     }
     Ok(false)
 }
@@ -62,7 +70,7 @@ pub struct Feed<R: Drop> {
 
 impl<R: Read + Drop> Feed<R> {
     pub fn new(heap: Global, reader: R) -> Self
-        ensures { (vec_items result.kept ≡ []) × (result.from ≡ 0) × (result.ended ≡ false) × (result.reader ≡ reader.entry) }
+        ensures { (vec_items result.kept ≡ []) × (result.from ≡ 0) × (result.ended ≡ false) × (result.reader ≡ reader) }
     {
         Feed {
             heap,
@@ -106,19 +114,18 @@ impl<R: Read + Drop> Feed<R> {
         self.from = self.from.saturating_add(n).min(self.kept.len());
     }
 
-    // Reads on, by as much as is needed already, up to the text's end. After an error it is as before, but for what the
-    // reader gave.
+    // Reads on: by a byte at least, unless that is the text's end. After an error it is as before, but for what the reader
+    // gave.
     pub fn more(&mut self) -> io::Result<()>
         ensures { MatchResult result
             (λ _. (self.new.from ≡ 0)
             × ((more : List ℕ) × (vec_items self.new.kept ≡ drop self.old.from (vec_items self.old.kept) ++ more) × Consumes (R.remaining self.old.reader) (R.remaining self.new.reader) more)
             × (self.new.ended ≡ true → IsAtEnd (R.remaining self.new.reader))
-            × (self.new.ended ≡ false → (LEAST ≤ length (vec_items self.new.kept)) × (2 * length (drop self.old.from (vec_items self.old.kept)) ≤ length (vec_items self.new.kept))))
+            × (self.new.ended ≡ false → length (drop self.old.from (vec_items self.old.kept)) < length (vec_items self.new.kept)))
             (λ _. (self.new.kept ≡ self.old.kept) × (self.new.from ≡ self.old.from) × (self.new.ended ≡ self.old.ended)) }
     {
         let mut kept = Vec::from_slice(self.heap, self.needed())?;
-        let enough = kept.len().saturating_mul(2).max(LEAST);
-        let ended = read_on(&mut self.reader, &mut kept, enough)?;
+        let ended = read_on(&mut self.reader, &mut kept)?;
         self.kept = kept;
         self.from = 0;
         self.ended = ended;

@@ -33,7 +33,7 @@ const HELP: &str =
   too early at R by G, G: A and B
                               the input of register R changes too early: earliest time A,
                               late time and hold B
-  turned away by N at P: REASON
+  turned away by N at P: REASON (line L)
                               the numbers are no circuit
 
   FILE          a text of circuits; - is standard input
@@ -42,7 +42,8 @@ const HELP: &str =
   --paths       after the word on a circuit tell, step by step, the path to the register that
                 it names, and those to the registers with the smallest margin of each kind
   --period      print for each circuit the shortest period with which no input comes too
-                late, and the frequency of it: shortest period 17, 58823.529 MHz
+                late, and the frequency of it: shortest period 17, 58823.529 MHz; whether one
+                changes too early is not looked at
   --report      print for each circuit a text that stands for itself: the circuit, and all that is
                 found of it, which docs/REPORT.md describes
   --exit-zero   end with status 0 whatever is said of the circuits
@@ -97,6 +98,7 @@ enum Flaw {
     Unreadable(io::Error),
     Fault(Fault),
     NoCircuit,
+    Memory,
 }
 
 // What stands behind the file's name and a colon.
@@ -106,6 +108,7 @@ impl fmt::Display for Flaw {
             Flaw::Unreadable(e) => write!(f, " {e}"),
             Flaw::Fault(fault) => write!(f, "{fault}"),
             Flaw::NoCircuit => f.write_str(" no circuit: nothing was checked"),
+            Flaw::Memory => f.write_str(" memory is short"),
         }
     }
 }
@@ -222,21 +225,23 @@ enum Found {
 }
 
 // Looks at the lines at hand, before which there were so many others. The reader counts lines from 1 in what is handed to
-// it, so those before are added here.
-fn look(
+// it, so those before are added here. What is said is put behind `out` as a whole or not at all.
+fn look<R: Read + Drop>(
     heap: Global,
     form: Form,
     file: &str,
-    lines: &[u8],
+    feed: &Feed<R>,
     before: usize,
     out: &mut String,
-) -> anyhow::Result<Result<Found, Fault>> {
+) -> Result<Found, Flaw> {
+    let lines = feed.lines();
     let read = match text::read(heap, lines) {
         Ok(Some(read)) => read,
-        Ok(None) => return Ok(Ok(Found::Nothing)),
+        Ok(None) => return Ok(Found::Nothing),
+        Err(fault) if fault.expected == Expected::End && !feed.ended() => return Ok(Found::Cut),
         Err(Fault { line, expected }) => {
             let line = line.saturating_add(before);
-            return Ok(Err(Fault { line, expected }));
+            return Err(Flaw::Fault(Fault { line, expected }));
         }
     };
     let source = Source {
@@ -245,12 +250,17 @@ fn look(
         text: lines,
         before,
     };
-    let outcome = source.tell(heap, form, out)?;
-    Ok(Ok(Found::Circuit {
+    // All that can fail is memory.
+    let mut said = String::new(heap);
+    let outcome = source
+        .tell(heap, form, &mut said)
+        .map_err(|_| Flaw::Memory)?;
+    out.push_str(&said).map_err(|_| Flaw::Memory)?;
+    Ok(Found::Circuit {
         bytes: lines.len().saturating_sub(read.rest.text.len()),
         lines: read.rest.number.saturating_sub(1),
         outcome,
-    }))
+    })
 }
 
 // How many lines end in a text.
@@ -277,18 +287,15 @@ fn pass_text<R: Read + Drop>(
     let mut before: usize = 0;
     let mut worst = None;
     for _ in 0..u64::MAX {
-        let lines = feed.lines();
-        let found = match look(rt.alloc(), form, file, lines, before, out)? {
-            Ok(found) => found,
-            Err(fault) if fault.expected == Expected::End && !feed.ended() => Found::Cut,
-            Err(fault) => return Ok(Err(Flaw::Fault(fault))),
-        };
-        match found {
-            Found::Circuit {
-                bytes,
-                lines,
-                outcome,
-            } => {
+        match look(rt.alloc(), form, file, feed, before, out) {
+            Err(flaw) => return Ok(Err(flaw)),
+            Ok(
+                Found::Circuit {
+                    bytes,
+                    lines,
+                    outcome,
+                },
+            ) => {
                 worst = worst.max(Some(outcome));
                 before = before.saturating_add(lines);
                 feed.skip(bytes);
@@ -297,10 +304,12 @@ fn pass_text<R: Read + Drop>(
                 }
                 continue;
             }
-            Found::Nothing if feed.ended() => break,
-            Found::Nothing => before = skip_all(feed, before),
-            Found::Cut => {}
+            Ok(Found::Nothing) if feed.ended() => break,
+            Ok(Found::Nothing) => before = skip_all(feed, before),
+            Ok(Found::Cut) => {}
         }
+        // What was said is not held back while more is waited for.
+        flush(rt, out)?;
         if let Err(e) = feed.more() {
             return Ok(Err(Flaw::Unreadable(e)));
         }

@@ -17,4 +17,4 @@ margins s = codes "margin " ++ (signed_decimal s.setup.margin ++ (codes " and " 
 abbrev pub miscount_words : Part → List ℕ
 miscount_words Gates = codes "a gate has 7 numbers"
 miscount_words Registers = codes "a register has 3 numbers"
-miscount_words Times = codes "there are 5 times"
+miscount_words Times = codes "a line of times has 5 numbers"

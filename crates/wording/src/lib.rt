@@ -80,7 +80,7 @@ impl TurnedAway<Why> {
         let why = Why::Miscount(match part {
             Part::Gates => "a gate has 7 numbers",
             Part::Registers => "a register has 3 numbers",
-            Part::Times => "there are 5 times",
+            Part::Times => "a line of times has 5 numbers",
         });
         TurnedAway {
             refusal: part.into(),
