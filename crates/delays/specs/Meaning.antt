@@ -112,9 +112,9 @@ meaning q n t (l ∷ ls) = went (statement q (n - 1) t (words (bare l))) n (λ t
 abbrev pub Stated : Result Told Expected → Told → Result (Unit {0}) Expected → Type 0
 Stated o t r = MatchResult r (λ _. o ≡ Ok t) (λ e. (e ≡ Memory) ⊎ (o ≡ Err e))
 
--- the code's answer r where x is told in the place of o, which is o' after it
+-- the code's answer r where x is told in the place of o, which is o' after it: where one was told already it stays
 abbrev pub ToldOnce : {A : Type 0} → Line → (o o' : Option A) → A → Result (Unit {0}) Expected → Type 0
-ToldOnce {A} l o o' x r = MatchResult r (λ _. (o ≡ None) × (o' ≡ Some x)) (λ e. (e ≡ Once l) × ((y : A) × (o ≡ Some y)))
+ToldOnce {A} l o o' x r = MatchResult r (λ _. (o ≡ None) × (o' ≡ Some x)) (λ e. (e ≡ Once l) × ((y : A) × (o ≡ Some y)) × (o' ≡ o))
 
 -- the code's answer r for a value, or what was expected or want of memory
 abbrev pub Valued : {A B : Type 0} → (A → B) → Result B Expected → Result A Expected → Type 0
