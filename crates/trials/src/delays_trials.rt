@@ -86,44 +86,67 @@ fn fault(heap: Global, text: &[u8]) -> Option<(usize, Expected)> {
 fn statements(rt: HostRuntime) {
     let heap = rt.alloc();
     let first_word = Expected::FirstWord;
-    let cases: [(&[u8], Option<(usize, Expected)>); 7] = [
-        (b"", Some((1, Expected::Cycles))),
-        (b"\n# cycles 5\n", Some((3, Expected::Cycles))),
-        (b"random 1\nstart 0 0", Some((3, Expected::Cycles))),
-        (b"cycles 1\n\nwait 3", Some((3, first_word))),
-        (b"Cycles 1\nwait 3", Some((1, first_word))),
-        (b"cycle 1\n", Some((1, first_word))),
-        (b"5\n", Some((1, first_word))),
-    ];
-    for (text, want) in cases {
-        assert_eq!(rt; fault(heap, text), want);
-    }
+    assert_eq!(rt; fault(heap, b""), Some((1, Expected::Cycles)));
+    assert_eq!(rt; fault(heap, b"\n# cycles 5\n"), Some((3, Expected::Cycles)));
+    assert_eq!(rt;
+        fault(heap, b"random 1\nstart 0 0"),
+        Some((3, Expected::Cycles))
+    );
+    assert_eq!(rt; fault(heap, b"cycles 1\n\nwait 3"), Some((3, first_word)));
+    assert_eq!(rt; fault(heap, b"Cycles 1\nwait 3"), Some((1, first_word)));
+    assert_eq!(rt; fault(heap, b"cycle 1\n"), Some((1, first_word)));
+    assert_eq!(rt; fault(heap, b"5\n"), Some((1, first_word)));
 }
 
 // Words that are no numbers, and too few or too many of them.
 #[test]
 fn numbers(rt: HostRuntime) {
     let heap = rt.alloc();
-    let cases: [(&[u8], Option<(usize, Expected)>); 15] = [
-        (b"cycles\n", Some((1, Expected::After(Line::Cycles)))),
-        (b"cycles 1 2", Some((1, Expected::After(Line::Cycles)))),
-        (b"cycles five", Some((1, Expected::Number))),
-        (b"cycles +5", Some((1, Expected::Number))),
-        (b"cycles -5", Some((1, Expected::Number))),
-        (b"cycles 4294967295", None),
-        (b"cycles 4294967296", Some((1, Expected::Small))),
-        (b"random 4294967296", Some((1, Expected::Small))),
-        (b"random", Some((1, Expected::After(Line::Random)))),
-        (b"clock 2 0", Some((1, Expected::After(Line::Clock)))),
-        (b"delay 2 0 1", Some((1, Expected::After(Line::Delay)))),
-        (b"delay 2 0 1 1 1", Some((1, Expected::After(Line::Delay)))),
-        (b"show 2 0 1 1", Some((1, Expected::After(Line::Show)))),
-        (b"take 2 0 # 1", Some((1, Expected::After(Line::Take)))),
-        (b"take 2 x 0 0", Some((1, Expected::Number))),
-    ];
-    for (text, want) in cases {
-        assert_eq!(rt; fault(heap, text), want);
-    }
+    assert_eq!(rt;
+        fault(heap, b"cycles\n"),
+        Some((1, Expected::After(Line::Cycles)))
+    );
+    assert_eq!(rt;
+        fault(heap, b"cycles 1 2"),
+        Some((1, Expected::After(Line::Cycles)))
+    );
+    assert_eq!(rt; fault(heap, b"cycles five"), Some((1, Expected::Number)));
+    assert_eq!(rt; fault(heap, b"cycles +5"), Some((1, Expected::Number)));
+    assert_eq!(rt; fault(heap, b"cycles -5"), Some((1, Expected::Number)));
+    assert_eq!(rt; fault(heap, b"cycles 4294967295"), None);
+    assert_eq!(rt;
+        fault(heap, b"cycles 4294967296"),
+        Some((1, Expected::Small))
+    );
+    assert_eq!(rt;
+        fault(heap, b"random 4294967296"),
+        Some((1, Expected::Small))
+    );
+    assert_eq!(rt;
+        fault(heap, b"random"),
+        Some((1, Expected::After(Line::Random)))
+    );
+    assert_eq!(rt;
+        fault(heap, b"clock 2 0"),
+        Some((1, Expected::After(Line::Clock)))
+    );
+    assert_eq!(rt;
+        fault(heap, b"delay 2 0 1"),
+        Some((1, Expected::After(Line::Delay)))
+    );
+    assert_eq!(rt;
+        fault(heap, b"delay 2 0 1 1 1"),
+        Some((1, Expected::After(Line::Delay)))
+    );
+    assert_eq!(rt;
+        fault(heap, b"show 2 0 1 1"),
+        Some((1, Expected::After(Line::Show)))
+    );
+    assert_eq!(rt;
+        fault(heap, b"take 2 0 # 1"),
+        Some((1, Expected::After(Line::Take)))
+    );
+    assert_eq!(rt; fault(heap, b"take 2 x 0 0"), Some((1, Expected::Number)));
 }
 
 // Registers and bits that are none.
@@ -131,62 +154,58 @@ fn numbers(rt: HostRuntime) {
 fn registers_and_bits(rt: HostRuntime) {
     let heap = rt.alloc();
     let start = Expected::After(Line::Start);
-    let cases: [(&[u8], Option<(usize, Expected)>); 10] = [
-        (b"start 0", Some((1, start))),
-        (b"start 0 1 1", Some((1, start))),
-        (b"start 0 1 x", Some((1, start))),
-        (b"start 2", Some((1, Expected::Bit))),
-        (b"start 0 x", Some((1, Expected::Number))),
-        (b"show 1 2 1", Some((1, Expected::Register))),
-        (b"take 1 2 7", Some((1, Expected::Register))),
-        (b"show 1 1 2", Some((1, Expected::Bit))),
-        (b"take 1 1 2", Some((1, Expected::Bit))),
-        (b"cycles 1\nclock 1 9 1\ndelay 1 9 1 1", None),
-    ];
-    for (text, want) in cases {
-        assert_eq!(rt; fault(heap, text), want);
-    }
+    assert_eq!(rt; fault(heap, b"start 0"), Some((1, start)));
+    assert_eq!(rt; fault(heap, b"start 0 1 1"), Some((1, start)));
+    assert_eq!(rt; fault(heap, b"start 0 1 x"), Some((1, start)));
+    assert_eq!(rt; fault(heap, b"start 2"), Some((1, Expected::Bit)));
+    assert_eq!(rt; fault(heap, b"start 0 x"), Some((1, Expected::Number)));
+    assert_eq!(rt; fault(heap, b"show 1 2 1"), Some((1, Expected::Register)));
+    assert_eq!(rt; fault(heap, b"take 1 2 7"), Some((1, Expected::Register)));
+    assert_eq!(rt; fault(heap, b"show 1 1 2"), Some((1, Expected::Bit)));
+    assert_eq!(rt; fault(heap, b"take 1 1 2"), Some((1, Expected::Bit)));
+    assert_eq!(rt; fault(heap, b"cycles 1\nclock 1 9 1\ndelay 1 9 1 1"), None);
 }
 
 // Lines that stand twice, and lines out of order.
 #[test]
 fn places(rt: HostRuntime) {
     let heap = rt.alloc();
-    let cases: [(&[u8], Option<(usize, Expected)>); 9] = [
-        (
-            b"cycles 1\ncycles 1",
-            Some((2, Expected::Once(Line::Cycles))),
-        ),
-        (
-            b"start 0 1\n\nstart 0 1",
-            Some((3, Expected::Once(Line::Start))),
-        ),
-        (
-            b"random 1\nrandom 2",
-            Some((2, Expected::Once(Line::Random))),
-        ),
-        (
-            b"clock 2 0 1\nclock 1 1 1",
-            Some((2, Expected::NoEarlier(Line::Clock))),
-        ),
-        (
-            b"delay 2 2 1 1\nshow 1 0 1\ndelay 1 3 1 1",
-            Some((3, Expected::NoEarlier(Line::Delay))),
-        ),
-        (
-            b"show 2 0 1\nshow 1 0 1",
-            Some((2, Expected::NoEarlier(Line::Show))),
-        ),
-        (
-            b"take 2 0 1\ntake 1 0 1",
-            Some((2, Expected::NoEarlier(Line::Take))),
-        ),
-        (b"show 2 0 1\nshow 1 0 2", Some((2, Expected::Bit))),
-        (b"cycles 1\nshow 2 0 1\ntake 1 0 1\nshow 2 0 0", None),
-    ];
-    for (text, want) in cases {
-        assert_eq!(rt; fault(heap, text), want);
-    }
+    assert_eq!(rt;
+        fault(heap, b"cycles 1\ncycles 1"),
+        Some((2, Expected::Once(Line::Cycles)))
+    );
+    assert_eq!(rt;
+        fault(heap, b"start 0 1\n\nstart 0 1"),
+        Some((3, Expected::Once(Line::Start)))
+    );
+    assert_eq!(rt;
+        fault(heap, b"random 1\nrandom 2"),
+        Some((2, Expected::Once(Line::Random)))
+    );
+    assert_eq!(rt;
+        fault(heap, b"clock 2 0 1\nclock 1 1 1"),
+        Some((2, Expected::NoEarlier(Line::Clock)))
+    );
+    assert_eq!(rt;
+        fault(heap, b"delay 2 2 1 1\nshow 1 0 1\ndelay 1 3 1 1"),
+        Some((3, Expected::NoEarlier(Line::Delay)))
+    );
+    assert_eq!(rt;
+        fault(heap, b"show 2 0 1\nshow 1 0 1"),
+        Some((2, Expected::NoEarlier(Line::Show)))
+    );
+    assert_eq!(rt;
+        fault(heap, b"take 2 0 1\ntake 1 0 1"),
+        Some((2, Expected::NoEarlier(Line::Take)))
+    );
+    assert_eq!(rt;
+        fault(heap, b"show 2 0 1\nshow 1 0 2"),
+        Some((2, Expected::Bit))
+    );
+    assert_eq!(rt;
+        fault(heap, b"cycles 1\nshow 2 0 1\ntake 1 0 1\nshow 2 0 0"),
+        None
+    );
 }
 
 // The words on a fault.
