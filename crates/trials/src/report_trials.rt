@@ -92,8 +92,9 @@ fn fault(heap: Global, claims: &[u8]) -> Result<Option<(usize, Expected)>, Fail>
     })
 }
 
+// Claims that end, and ones that do not.
 #[test]
-fn faults_of_claims(rt: HostRuntime) -> Result<(), Fail> {
+fn ends_of_claims(rt: HostRuntime) -> Result<(), Fail> {
     let heap = rt.alloc();
     assert_eq!(rt; fault(heap, b"end")?, None);
     assert_eq!(rt;
@@ -107,6 +108,13 @@ fn faults_of_claims(rt: HostRuntime) -> Result<(), Fail> {
         fault(heap, b"passed\nend end")?,
         Some((6, Expected::Nothing))
     );
+    Ok(())
+}
+
+// Lines that are no claims, and too few or too many numbers.
+#[test]
+fn lines_of_claims(rt: HostRuntime) -> Result<(), Fail> {
+    let heap = rt.alloc();
     assert_eq!(rt; fault(heap, b"Passed\nend")?, Some((5, Expected::Claim)));
     assert_eq!(rt; fault(heap, b"circuit\n")?, Some((5, Expected::Claim)));
     assert_eq!(rt;
@@ -121,6 +129,13 @@ fn faults_of_claims(rt: HostRuntime) -> Result<(), Fail> {
         fault(heap, b"margins 1 2 3\nend")?,
         Some((5, Expected::Numbers(2)))
     );
+    Ok(())
+}
+
+// Words that are no numbers.
+#[test]
+fn numbers_of_claims(rt: HostRuntime) -> Result<(), Fail> {
+    let heap = rt.alloc();
     assert_eq!(rt;
         fault(heap, b"margins 1 x 3\nend")?,
         Some((5, Expected::Whole))
