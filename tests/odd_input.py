@@ -3,6 +3,7 @@
 
     tests/odd_input.py      (needs built programs: ./muleminute pass --version and ./muleminute bench --version build them)"""
 import os
+import select
 import subprocess
 import sys
 import tempfile
@@ -252,6 +253,21 @@ def check_memory(folder):
     assert status == 1 and out.startswith("turned away by 1 at 0: ") and out.endswith("(line 300001)\n"), out
 
 
+def check_pipe(folder):
+    """What comes bit by bit is answered as it comes, while the pipe stays open."""
+    path = os.path.join(TOP, "crates", "pass", "out", "pass")
+    with subprocess.Popen([path, "-"], stdin=subprocess.PIPE, stdout=subprocess.PIPE) as run_:
+        for half in (GOOD[:30], GOOD[30:]):
+            run_.stdin.write(half)
+            run_.stdin.flush()
+        ready, _, _ = select.select([run_.stdout], [], [], 30)
+        assert ready, "no answer while the pipe is open"
+        same(run_.stdout.readline(), b"c: passed, margin 3 and 1\n", "through a pipe")
+        run_.stdin.write(GOOD)
+        run_.stdin.close()
+        same(run_.stdout.read(), b"c: passed, margin 3 and 1\n", "the rest of a pipe")
+
+
 def check_trials(folder):
     """A run that is not made by its number alone is counted apart; numbers go on from 0."""
     skew = folder.file("skew", b"circuit skew\ntimes 10 2 4 3 1\nregister 0 0 30\nend\n")
@@ -272,7 +288,7 @@ def check_trials(folder):
 def main():
     with tempfile.TemporaryDirectory() as path:
         folder = Folder(path)
-        for check in (check_pass, check_statuses, check_files, check_bench, check_arguments, check_long, check_limits, check_memory, check_trials):
+        for check in (check_pass, check_statuses, check_files, check_bench, check_arguments, check_long, check_limits, check_memory, check_pipe, check_trials):
             check(folder)
     print("bad input is told: %d texts of circuits, %d of delays, files and arguments"
           % (len(CIRCUITS) + len(REFUSED), len(DELAYS) + len(OUTSIDE)))
