@@ -71,20 +71,34 @@ DELAYS = [
     (b"start 1\n", 2, "expected a line `cycles`"),
     (b"cycles 2\ncycles 2\n", 2, "expected just one line `cycles`"),
     (b"cycles\n", 1, "expected"),
+    (b"cycles 1 2\n", 1, "expected 1 number after `cycles`: how many"),
     (b"cycles 4294967296\n", 1, "expected a number below"),
+    (b"cycles +1\n", 1, "expected a number"),
+    (b"cycles one\n", 1, "expected a number"),
     (b"cycles -1\n", 1, "expected a number"),
     (b"cycles 2\nstart 1 0\n", 2, "expected"),
+    (b"cycles 2\nstart x\n", 2, "expected a number"),
     (b"cycles 2\nstart 2\n", 2, "expected 0 or 1"),
+    (b"start 1\n\nstart 1\n", 3, "expected just one line `start`"),
+    (b"random 1\nrandom 2\n", 2, "expected just one line `random`"),
+    (b"random 4294967296\n", 1, "expected a number below"),
     (b"cycles 2\nshow 0 1 1\n", 2, "expected a register of the circuit"),
     (b"cycles 2\ntake 1 0 2\n", 2, "expected 0 or 1"),
-    (b"cycles 2\ntake 2 0 1\ntake 1 0 1\n", 3, "expected a cycle no earlier"),
+    (b"cycles 2\ntake 2 0 1\ntake 1 0 1\n", 3, "expected a cycle no earlier than that of the line `take` above"),
+    (b"cycles 3\nclock 2 0 1\nclock 1 0 1\n", 3, "expected a cycle no earlier than that of the line `clock` above"),
+    (b"cycles 2\ndelay 2 1 8 8\nshow 1 0 1\ndelay 1 1 8 8\n", 4, "expected a moment no earlier than that of the line `delay` above"),
     (b"cycles 2\nshow 2 0 1\nshow 1 0 1\n", 3, "expected a moment no earlier"),
     (b"cycles 2\nrandom\n", 2, "expected 1 number after `random`"),
     (b"cycles 2\nclock 0 0\n", 2, "expected 3 numbers after `clock`: cycle, register and time"),
     (b"cycles 2\ndelay 0 1 8\n", 2, "expected 4 numbers after `delay`: moment, signal and two delays"),
+    (b"cycles 2\ndelay 0 1 8 8 8\n", 2, "expected 4 numbers after `delay`: moment, signal and two delays"),
     (b"cycles 2\nshow 0 0\n", 2, "expected 3 numbers after `show`: moment, register and bit"),
+    (b"cycles 2\ntake 1 0 # 1\n", 2, "expected 3 numbers after `take`: cycle, register and bit"),
     (b"cycles 2\ntake 0 0\n", 2, "expected 3 numbers after `take`: cycle, register and bit"),
     (b"cycles 2\n\x00\n", 2, "expected a line that begins with"),
+    (b"cycle 2\n", 1, "expected a line that begins with `cycles`, `start`, `random`, `clock`, `delay`, `show` or `take`"),
+    (b"Cycles 2\nwait 3\n", 1, "expected a line that begins with"),
+    (b"\n# cycles 5\n", 3, "expected a line `cycles`; the text ends without one"),
     (b"cycles 0\n", None, " no cycle"),
     (b"cycles 2\nclock 4 0 1\nclock 5 0 1\n", 3, "expected a cycle that begins before the run's end"),
     (b"cycles 2\nclock 4294967295 0 1\n", 2, "expected a cycle that begins before the run's end"),
@@ -223,6 +237,13 @@ def check_limits(folder):
     for more, word in ((registers[:registers.index("\n") + 1], "2 at 0"), (gate, "2 at 1")):
         status, out, err = run("bench", folder.file("large", text.replace("end\n", more + "end\n").encode()), told)
         assert status == 1 and out.startswith("turned away by %s: " % word), (out, err)
+    # The longest chain with the largest delays: its sums are far above 2^32.
+    chain = "".join("gate %d %d nor 1000000 1000000 1000000 1000000\n" % (k, k) for k in range(16384))
+    chain = "circuit chain\ntimes 0 1000000 1000000 1000000 0\nregister 16384 1000000 1000000\n" + chain + "end\n"
+    status, out, err = run("pass", folder.file("chain", chain.encode()))
+    assert status == 1 and out.startswith("chain: too late at 0 by 1, 2, ") and out.endswith(", 16384: 16387000000 and 1000000\n"), (status, out[-200:], err)
+    status, out, err = run("pass", "--period", folder.file("chain", chain.encode()))
+    assert "16386000000" in out, (status, out[-200:], err)
     one = GOOD.replace(b"20 2 4", b"1000000 2 4").replace(b"3 8 3 8", b"1 1000000 0 1000000")
     status, out, err = run("bench", folder.file("slow", one), folder.file("told", b"cycles 1\ndelay 0 1 1000000 1000000\n"))
     assert out != "" and "cycle" in out.splitlines()[-1], (status, out, err)
