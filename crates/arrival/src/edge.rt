@@ -4,7 +4,7 @@ ghost use Rattle.arrival.specs.Arrival.{delay, gate_time};
 
 use circuit::Gate;
 
-#[derive(Clone, Copy, PartialEq, Debug)]
+#[derive(Clone, Copy, PartialEq)]
 pub enum Edge {
     // The latest: from when on a signal is sure.
     Late,

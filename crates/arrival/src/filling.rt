@@ -37,7 +37,12 @@ fn first_large(times: &[u64], n: usize) -> Option<usize>
     requires { n ≤ length times.now }
     ensures { AllOrFirst (SmallSource times.now) n result }
 {
-    times[..n].iter().position(|time| *time > LARGEST_SOURCE)
+    for (i, time) in times[..n].iter().enumerate() {
+        if *time > LARGEST_SOURCE {
+            return Some(i);
+        }
+    }
+    None
 }
 
 // The latest and the earliest time of every signal, over the times of sources with which both slices begin: there are as
@@ -80,8 +85,8 @@ fn fill_registers(circuit: Circuit<'_>, latest: &mut [u64], earliest: &mut [u64]
 {
     for (r, register) in circuit.registers().iter().enumerate() {
         let register = Register::from(*register);
-        latest[r] = u64::from(register.late) + u64::from(circuit.output_late());
-        earliest[r] = u64::from(register.early) + u64::from(circuit.output_early());
+        latest[r] = u64::from(register.late + circuit.output_late());
+        earliest[r] = u64::from(register.early + circuit.output_early());
     }
 }
 

@@ -1,5 +1,5 @@
 // Whether three lists of numbers are a circuit, or the first reason why they are not.
-ghost use Rattle.std.specs.Prelude.{◌≡◌, ℕ, ◌+◌, ◌*◌, ◌/◌, ◌%◌, ◌<◌, ◌≤◌, length, MatchResult, slice_index};
+ghost use Rattle.std.specs.Prelude.{◌≡◌, ℕ, ◌+◌, ◌*◌, ◌/◌, ◌%◌, ◌<◌, ◌≤◌, length, MatchResult, slice_index, IsTrue, ◌↔◌};
 ghost use Rattle.circuit.specs.Checked.{lent};
 ghost use Rattle.circuit.specs.Lent.{gate_count, register_count, signal_count};
 ghost use Rattle.circuit.specs.Whole.{Whole, Shaped, FewGates, SomeRegisters, Placed, Ranged, Tied};
@@ -29,7 +29,19 @@ const TIME_NUMBERS: usize = 5;
 fn first_large(xs: &[u32]) -> Option<usize>
     ensures { AllOrFirst (λ i. slice_index xs.now i ≤ 1000000) (length xs.now) result }
 {
-    xs.iter().position(|x| *x > LARGEST)
+    for (i, x) in xs.iter().enumerate() {
+        if *x > LARGEST {
+            return Some(i);
+        }
+    }
+    None
+}
+
+// Whether a gate has its inputs below a number, and one of the sixteen tables.
+fn is_placed(gate: Gate, below: usize) -> bool
+    ensures { IsTrue result ↔ ((gate.one < below) × (gate.two < below) × (gate.table ≤ 15)) }
+{
+    (gate.one as usize) < below && (gate.two as usize) < below && gate.table <= LAST_TABLE
 }
 
 // The first gate with an input that is not below it, or a table above 15.
@@ -38,21 +50,38 @@ fn first_misplaced(numbers: Numbers<'_>) -> Option<usize>
     ensures { AllOrFirst (Placed (register_count numbers.entry.registers.now) numbers.entry.gates.now) (gate_count numbers.entry.gates.now) result }
 {
     let n = numbers.registers().len();
-    numbers.gates().iter().enumerate().position(|(k, gate)| {
-        let gate = Gate::from(*gate);
-        let below = n + k;
-        gate.one as usize >= below || gate.two as usize >= below || gate.table > LAST_TABLE
-    })
+    for (k, gate) in numbers.gates().iter().enumerate() {
+        if !is_placed(Gate::from(*gate), n + k) {
+            return Some(k);
+        }
+    }
+    None
+}
+
+// Whether neither least delay of a gate is above its greatest.
+fn is_ranged(gate: Gate) -> bool
+    ensures { IsTrue result ↔ ((gate.least_one ≤ gate.greatest_one) × (gate.least_two ≤ gate.greatest_two)) }
+{
+    gate.least_one <= gate.greatest_one && gate.least_two <= gate.greatest_two
 }
 
 // The first gate with a least delay above its greatest.
 fn first_unranged(numbers: Numbers<'_>) -> Option<usize>
     ensures { AllOrFirst (Ranged numbers.entry.gates.now) (gate_count numbers.entry.gates.now) result }
 {
-    numbers.gates().iter().position(|gate| {
-        let gate = Gate::from(*gate);
-        gate.least_one > gate.greatest_one || gate.least_two > gate.greatest_two
-    })
+    for (k, gate) in numbers.gates().iter().enumerate() {
+        if !is_ranged(Gate::from(*gate)) {
+            return Some(k);
+        }
+    }
+    None
+}
+
+// Whether a register takes one of so many signals, and its early time is not above its late one.
+fn is_tied(register: Register, signals: usize) -> bool
+    ensures { IsTrue result ↔ ((register.signal < signals) × (register.early ≤ register.late)) }
+{
+    (register.signal as usize) < signals && register.early <= register.late
 }
 
 // The first register that takes no signal of the circuit, or whose early time is above its late one.
@@ -60,28 +89,25 @@ fn first_untied(numbers: Numbers<'_>) -> Option<usize>
     ensures { AllOrFirst (Tied (signal_count numbers.entry.gates.now numbers.entry.registers.now) numbers.entry.registers.now) (register_count numbers.entry.registers.now) result }
 {
     let n = numbers.registers().len() + numbers.gates().len();
-    numbers.registers().iter().position(|register| {
-        let register = Register::from(*register);
-        register.signal as usize >= n || register.early > register.late
-    })
+    for (r, register) in numbers.registers().iter().enumerate() {
+        if !is_tied(Register::from(*register), n) {
+            return Some(r);
+        }
+    }
+    None
 }
 
 // Numbers 1 and 2: that the numbers are seven, three and five each, and how many gates and registers they are.
 fn look_at_counts(numbers: Numbers<'_>) -> Result<(), Refusal>
     ensures { MatchResult result (λ _. lent numbers.entry MetUpTo 2) (λ e. lent numbers.entry FirstRefusal e) }
 {
-    let Numbers {
-        gates,
-        registers,
-        times,
-    } = numbers;
-    if gates.len() % GATE_NUMBERS != 0 {
+    if numbers.gates.len() % GATE_NUMBERS != 0 {
         return Err(Refusal::GateNumbers);
     }
-    if registers.len() % REGISTER_NUMBERS != 0 {
+    if numbers.registers.len() % REGISTER_NUMBERS != 0 {
         return Err(Refusal::RegisterNumbers);
     }
-    if times.len() != TIME_NUMBERS {
+    if numbers.times.len() != TIME_NUMBERS {
         return Err(Refusal::TimeNumbers);
     }
     let n = numbers.registers().len();
@@ -99,27 +125,24 @@ fn look_at_sizes(numbers: Numbers<'_>) -> Result<(), Refusal>
     requires { lent numbers MetUpTo 2 }
     ensures { MatchResult result (λ _. lent numbers.entry MetUpTo 3) (λ e. lent numbers.entry FirstRefusal e) }
 {
-    let Numbers {
-        gates,
-        registers,
-        times,
-    } = numbers;
-    if let Some(i) = first_large(gates) {
+    if let Some(i) = first_large(numbers.gates) {
         return Err(Refusal::TooLarge(i));
     }
-    if let Some(i) = first_large(registers) {
-        return Err(Refusal::TooLarge(gates.len() + i));
+    if let Some(i) = first_large(numbers.registers) {
+        return Err(Refusal::TooLarge(numbers.gates.len() + i));
     }
-    if let Some(i) = first_large(times) {
-        return Err(Refusal::TooLarge(gates.len() + registers.len() + i));
+    if let Some(i) = first_large(numbers.times) {
+        let before = numbers.gates.len() + numbers.registers.len();
+        return Err(Refusal::TooLarge(before + i));
     }
     Ok(())
 }
 
-// Numbers 4 and 5: that each gate comes after its inputs and has a table and delays that are in order.
-fn look_at_gates(numbers: Numbers<'_>) -> Result<(), Refusal>
+// Numbers 4 to 7: that each gate comes after its inputs and has a table and delays that are in order, that each register
+// takes a signal of the circuit, and that clock and output times are in order.
+fn look_at_rows(numbers: Numbers<'_>) -> Result<(), Refusal>
     requires { lent numbers MetUpTo 3 }
-    ensures { MatchResult result (λ _. lent numbers.entry MetUpTo 5) (λ e. lent numbers.entry FirstRefusal e) }
+    ensures { MatchResult result (λ _. lent numbers.entry MetUpTo 7) (λ e. lent numbers.entry FirstRefusal e) }
 {
     if let Some(k) = first_misplaced(numbers) {
         return Err(Refusal::BadGate(k));
@@ -127,14 +150,6 @@ fn look_at_gates(numbers: Numbers<'_>) -> Result<(), Refusal>
     if let Some(k) = first_unranged(numbers) {
         return Err(Refusal::BadDelay(k));
     }
-    Ok(())
-}
-
-// Numbers 6 and 7: that each register takes a signal of the circuit, and that clock and output times are in order.
-fn look_at_registers(numbers: Numbers<'_>) -> Result<(), Refusal>
-    requires { lent numbers MetUpTo 5 }
-    ensures { MatchResult result (λ _. lent numbers.entry MetUpTo 7) (λ e. lent numbers.entry FirstRefusal e) }
-{
     if let Some(r) = first_untied(numbers) {
         return Err(Refusal::BadRegister(r));
     }
@@ -156,8 +171,7 @@ pub fn look(gates: &[u32], registers: &[u32], times: &[u32]) -> Result<(), Refus
     };
     look_at_counts(numbers)?;
     look_at_sizes(numbers)?;
-    look_at_gates(numbers)?;
-    look_at_registers(numbers)
+    look_at_rows(numbers)
 }
 
 // What is turned away is not whole, and the first reason is one and the same.

@@ -3,7 +3,7 @@ ghost use Rattle.std.specs.Prelude.{◌≡◌};
 ghost use Rattle.circuit.specs.Lent.{gate_of};
 
 // A gate: the signals at its two inputs, its table, and for each input a least and a greatest delay.
-#[derive(Clone, Copy, PartialEq, Debug)]
+#[derive(Clone, Copy)]
 pub struct Gate {
     pub one: u32,
     pub two: u32,

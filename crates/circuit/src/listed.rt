@@ -28,21 +28,19 @@ impl Refusal {
         ensures { result ≡ place_of self }
     {
         match self {
-            Refusal::GateNumbers => 0,
-            Refusal::RegisterNumbers => 1,
+            Refusal::GateNumbers
+            | Refusal::RegisterCount
+            | Refusal::BadOutput
+            | Refusal::NoPeriod => 0,
+            Refusal::RegisterNumbers | Refusal::GateCount | Refusal::NoMoment => 1,
             Refusal::TimeNumbers => 2,
-            Refusal::RegisterCount => 0,
-            Refusal::GateCount => 1,
-            Refusal::TooLarge(p) => p,
-            Refusal::BadGate(k) => k,
-            Refusal::BadDelay(k) => k,
-            Refusal::BadRegister(r) => r,
-            Refusal::BadOutput => 0,
-            Refusal::NoSignal(s) => s,
-            Refusal::NoRoom(n) => n,
-            Refusal::OutOfBounds(line) => line,
-            Refusal::NoPeriod => 0,
-            Refusal::NoMoment => 1,
+            Refusal::TooLarge(at)
+            | Refusal::BadGate(at)
+            | Refusal::BadDelay(at)
+            | Refusal::BadRegister(at)
+            | Refusal::NoSignal(at)
+            | Refusal::NoRoom(at)
+            | Refusal::OutOfBounds(at) => at,
         }
     }
 }

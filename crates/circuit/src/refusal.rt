@@ -1,6 +1,7 @@
 // Why numbers that are lent are turned away.
+use std::fmt;
 
-#[derive(Clone, Copy, PartialEq, Debug)]
+#[derive(Clone, Copy, PartialEq)]
 pub enum Refusal {
     // The gates' numbers are not seven for each gate.
     GateNumbers,
@@ -32,4 +33,11 @@ pub enum Refusal {
     NoPeriod,
     // On the bench, which makes no run with them: setup and latest output time are both 0.
     NoMoment,
+}
+
+// By its number and its place.
+impl fmt::Debug for Refusal {
+    fn fmt<W: fmt::Write>(&self, f: &mut fmt::Formatter<W>) -> fmt::Result {
+        fmt::Debug::fmt(&(self.number(), self.place()), f)
+    }
 }

@@ -3,7 +3,7 @@ ghost use Rattle.std.specs.Prelude.{◌≡◌};
 ghost use Rattle.circuit.specs.Lent.{register_of};
 
 // A register: the signal that it takes, and the earliest and the latest that its clock comes in a cycle.
-#[derive(Clone, Copy, PartialEq, Debug)]
+#[derive(Clone, Copy)]
 pub struct Register {
     pub signal: u32,
     pub early: u32,

@@ -40,16 +40,13 @@ impl History {
     {
         let log = bits_of(back);
         // Past the limits it asks for more words than any memory has
-        let words = if rows as u64 <= MOST && back < MOST {
+        let count = if rows as u64 <= MOST && back < MOST {
             (rows << log).div_ceil(64)
         } else {
             usize::MAX
         };
-        Ok(History {
-            words: vec![in heap; 0; words]?,
-            rows,
-            log,
-        })
+        let words = vec![in heap; 0; count]?;
+        Ok(History { words, rows, log })
     }
 
     fn place(&self, row: usize, at: u64) -> usize

@@ -19,6 +19,16 @@ struct Step {
     from: usize,
 }
 
+// Whether the second of two times at a gate's inputs is the gate's own, and the first is not.
+fn is_second(edge: Edge, one: u64, two: u64) -> bool
+    ensures { result ≡ by_second edge one two }
+{
+    match edge {
+        Edge::Late => one < two,
+        Edge::Early => two < one,
+    }
+}
+
 // The step back from gate `k`.
 fn back(a: Arrivals<'_, '_>, edge: Edge, k: usize) -> Step
     requires { k < gates_of a.circuit }
@@ -33,10 +43,7 @@ fn back(a: Arrivals<'_, '_>, edge: Edge, k: usize) -> Step
     let times = a.on(edge);
     let one = times[gate.one as usize] + u64::from(first);
     let two = times[gate.two as usize] + u64::from(second);
-    let second = match edge {
-        Edge::Late => one < two,
-        Edge::Early => two < one,
-    };
+    let second = is_second(edge, one, two);
     let from = if second { gate.two } else { gate.one };
     Step {
         second,

@@ -4,7 +4,7 @@ ghost use Rattle.script.specs.Chance.{stirred, drawn_from, between, odd};
 ghost use Rattle.script.specs.Choices.{drawn_for};
 
 // The kinds of choices, each with its number.
-#[derive(Clone, Copy, PartialEq, Debug)]
+#[derive(Clone, Copy)]
 pub enum Choice {
     // A register's bit at the start.
     Start = 0,

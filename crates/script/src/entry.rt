@@ -4,7 +4,7 @@ ghost use Rattle.script.specs.Entries.{bit_said};
 
 // On line `line`, counted from 0: from moment `when` on, or in cycle `when`, gate or register `who` has one value or two.
 // One form for all kinds, whatever they use of it: any kind may be pushed, and order, search and first line are said once.
-#[derive(Clone, Copy, PartialEq, Debug)]
+#[derive(Clone, Copy)]
 pub struct Entry {
     pub line: usize,
     pub when: u32,

@@ -1,6 +1,6 @@
 // The kinds of statements.
 
-#[derive(Clone, Copy, PartialEq, Debug)]
+#[derive(Clone, Copy)]
 pub enum Kind {
     // In a cycle, when the clock comes to a register.
     Clock,

@@ -24,6 +24,11 @@ module _ (gates registers times : List ℕ) where
   abbrev pub FirstEarly : ℕ → Type 0
   FirstEarly r = ((q : ℕ) → q < register_count registers → SetupKept machine q) × AllOrFirst (HoldKept machine) (register_count registers) (Some r)
 
+  -- r is the register that is named, of either kind
+  abbrev pub Named : Edge → ℕ → Type 0
+  Named Late = FirstLate
+  Named Early = FirstEarly
+
   -- the two sums of the first kind: latest time and setup, period and early time; of the second: earliest time, late time and hold
   abbrev pub LateSums : (r arrival limit : ℕ) → Type 0
   LateSums r arrival limit = (arrival ≡ last_change machine (takes registers r) + setup times) × (limit ≡ period times + early registers r)

@@ -1,12 +1,11 @@
 // Passing a clocked circuit, or naming what stands in its way.
 #![tactic(auto)]
 
-ghost use Rattle.std.specs.Prelude.{◌≡◌, ◌<◌, ◌≤◌, ◌↔◌, IsTrue, MatchResult};
+ghost use Rattle.std.specs.Prelude.{◌≡◌, ◌<◌, ◌≤◌, ◌↔◌, IsTrue};
 ghost use Rattle.circuit.specs.Checked.{of, registers_of};
 ghost use Rattle.circuit.specs.Lent.{takes};
 ghost use Rattle.circuit.specs.Refused.{AllOrFirst};
-ghost use Rattle.path.specs.Path.{PathTold, PathShort};
-ghost use Rattle.signoff.specs.Verdict.{SumsOf, SumsKept, Judged, Says, Answers};
+ghost use Rattle.signoff.specs.Verdict.{SumsOf, SumsKept, Named, Judged, Says, Answers};
 
 use arrival::{Arrivals, Edge, MOST_SIGNALS, fill_from_registers};
 use circuit::{Circuit, MOST_GATES, Numbers, Refusal, Register};
@@ -81,23 +80,29 @@ fn first_missed(a: Arrivals<'_, '_>, edge: Edge) -> Option<usize>
     }
 }
 
-// A register's sums, and its path, which goes into `room`.
-fn miss(a: Arrivals<'_, '_>, edge: Edge, register: usize, room: &mut [u32]) -> Result<Miss, Refusal>
-    requires { register < registers_of a.circuit }
-    ensures { MatchResult result
-        (λ x. (x.register ≡ register)
-        × of a.entry.circuit SumsOf edge register x.arrival x.limit
-        × of a.entry.circuit (PathTold edge) (takes a.entry.circuit.registers.now register) x.path room.old room.new)
-        (λ e. of a.entry.circuit (PathShort edge) (takes a.entry.circuit.registers.now register) room.old e × (room.new ≡ room.old)) }
+// The verdict that names a register, with its sums and its path, which goes into `room`.
+fn miss(
+    a: Arrivals<'_, '_>,
+    edge: Edge,
+    register: usize,
+    room: &mut [u32],
+) -> Result<Verdict, Refusal>
+    requires inside { register < registers_of a.circuit }
+    requires named { of a.circuit Named edge register }
+    ensures { of a.entry.circuit Judged room.old room.new result }
 {
     let sums = sums_at(a, edge, register);
     let path = path::path(a, edge, sums.signal, room)?;
-    Ok(Miss {
+    let miss = Miss {
         register,
         arrival: sums.arrival,
         limit: sums.limit,
         path,
-    })
+    };
+    match edge {
+        Edge::Late => Ok(Verdict::TooLate(miss)),
+        Edge::Early => Ok(Verdict::TooEarly(miss)),
+    }
 }
 
 // The verdict on a circuit whose arrival times are known; the path goes into `room`.
@@ -105,12 +110,23 @@ fn judge(a: Arrivals<'_, '_>, room: &mut [u32]) -> Result<Verdict, Refusal>
     ensures { of a.entry.circuit Judged room.old room.new result }
 {
     if let Some(register) = first_missed(a, Edge::Late) {
-        return Ok(Verdict::TooLate(miss(a, Edge::Late, register, room)?));
+        return miss(a, Edge::Late, register, room);
     }
     if let Some(register) = first_missed(a, Edge::Early) {
-        return Ok(Verdict::TooEarly(miss(a, Edge::Early, register, room)?));
+        return miss(a, Edge::Early, register, room);
     }
     Ok(Verdict::Passed)
+}
+
+// The same of a circuit whose arrival times are not known yet.
+fn judge_circuit(circuit: Circuit<'_>, room: &mut [u32]) -> Result<Verdict, Refusal>
+    ensures { of circuit.entry Judged room.old room.new result }
+{
+    // As long as any circuit needs, and no heap: passing cannot want memory.
+    let mut latest = [0; MOST_SIGNALS];
+    let mut earliest = [0; MOST_SIGNALS];
+    fill_from_registers(circuit, &mut latest, &mut earliest)?;
+    judge(Arrivals::new(circuit, &latest, &earliest), room)
 }
 
 // Passes a clocked circuit, or names the first register whose input comes too late, else the first whose input changes
@@ -128,23 +144,14 @@ pub fn pass<'a>(
         registers,
         times,
     })?;
-    // As long as any circuit needs, and no heap: passing cannot want memory.
-    let mut latest = [0; MOST_SIGNALS];
-    let mut earliest = [0; MOST_SIGNALS];
-    fill_from_registers(circuit, &mut latest, &mut earliest)?;
-    judge(Arrivals::new(circuit, &latest, &earliest), room)
+    judge_circuit(circuit, room)
 }
 
 // The verdict on a circuit, with room for every path.
 pub fn verdict_on(circuit: Circuit<'_>, room: &mut [u32; LONGEST_PATH]) -> Verdict
     ensures { of circuit.entry Says room.old room.new result }
 {
-    let Circuit {
-        gates,
-        registers,
-        times,
-    } = circuit;
-    let Ok(verdict) = pass(gates, registers, times, room) else {
+    let Ok(verdict) = judge_circuit(circuit, room) else {
         unreachable!()
     };
     verdict

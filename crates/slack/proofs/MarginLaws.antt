@@ -41,6 +41,15 @@ by_margins m = (
     enough setup hold Late r h = (kept_enough Late m r).0 (setup r h)
     enough setup hold Early r h = (kept_enough Early m r).0 (hold r h)
 
+-- of one register the smallest margin is its own
+pub alone : (e : Edge) (m : Machine) (x : ℤ) → x ≡ margin_of e m 0 → IsWorst e m 1 (record { register = 0; margin = x })
+alone e m x is = record {
+  inside = omega arith;
+  has = is;
+  smallest = λ q h. let first : q ≡ 0 = omega arith in rw first (omega (arith, ints));
+  first = λ q h. absurd (omega arith);
+}
+
 -- the next register has a smaller margin than all before it
 pub smaller : (e : Edge) (m : Machine) (n : ℕ) (w : Worst) (x : ℤ) → IsWorst e m n w → x ≡ margin_of e m n → x <ℤ w.margin → IsWorst e m (n + 1) (record { register = n; margin = x })
 smaller e m n w x sofar is below = record {

@@ -1,7 +1,7 @@
 // The three times of a register.
 
 // When the signal that a register takes comes, when it has to, and how much is to spare.
-#[derive(Clone, Copy, PartialEq, Debug)]
+#[derive(Clone, Copy)]
 pub struct Ends {
     pub arrival: i64,
     pub required: i64,

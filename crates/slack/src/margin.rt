@@ -1,5 +1,5 @@
 // The margins of a circuit's registers.
-ghost use Rattle.std.specs.Prelude.{◌≡◌, ◌*◌, ◌^◌, ◌<◌, ◌≤◌, length, MatchOption, MatchResult, pos, ◌<ℤ◌};
+ghost use Rattle.std.specs.Prelude.{◌≡◌, ◌*◌, ◌^◌, ◌<◌, ◌≤◌, length, MatchOption, MatchResult, pos, ◌+ℤ◌, ◌<ℤ◌, ◌≤ℤ◌};
 ghost use Rattle.circuit.specs.Checked.{of, registers_of};
 ghost use Rattle.circuit.specs.Lent.{takes};
 ghost use Rattle.circuit.specs.declared.refusal.Refusal.TheVariants.{NoRoom};
@@ -27,36 +27,43 @@ fn arrival_at(a: Arrivals<'_, '_>, edge: Edge, r: usize) -> i64
     a.on(edge)[signal] as i64
 }
 
-// How much a register's sum could grow and still be right; below 0, how much is missing. The setup margin is period and
-// early time less latest time and setup, the hold margin earliest time less late time and hold, less one.
-fn margin(a: Arrivals<'_, '_>, edge: Edge, r: usize) -> i64
-    requires { r < registers_of a.circuit }
-    ensures { result ≡ margin_of edge (of a.entry.circuit machine_in) r }
-{
-    let register = Register::from(a.circuit.registers()[r]);
-    let arrival = arrival_at(a, edge, r);
-    match edge {
-        Edge::Late => {
-            let limit = i64::from(a.circuit.period()) + i64::from(register.early);
-            limit - (arrival + i64::from(a.circuit.setup()))
-        }
-        Edge::Early => {
-            let limit = i64::from(register.late) + i64::from(a.circuit.hold());
-            arrival - limit - 1
-        }
-    }
-}
-
 // When the signal that a register takes has to come: at the latest for its setup sum, at the earliest for its hold sum.
 fn required(c: Circuit<'_>, edge: Edge, r: usize) -> i64
     requires { r < registers_of c }
-    ensures { result ≡ required_of edge (of c.entry machine_in) r }
+    ensures time { result ≡ required_of edge (of c.entry machine_in) r }
+    ensures small { (result <ℤ pos (2 ^ 34)) × (pos 0 ≤ℤ (result +ℤ pos (2 ^ 34))) }
 {
     let register = Register::from(c.registers()[r]);
     match edge {
         Edge::Late => { i64::from(c.period()) + i64::from(register.early) - i64::from(c.setup()) }
         Edge::Early => i64::from(register.late) + i64::from(c.hold()) + 1,
     }
+}
+
+// The three times of a register. The margin is how much its sum could grow and still be right; below 0, how much is missing.
+fn ends_of(a: Arrivals<'_, '_>, edge: Edge, r: usize) -> Ends
+    requires { r < registers_of a.circuit }
+    ensures { IsEnds edge a.entry.circuit r result }
+{
+    let arrival = arrival_at(a, edge, r);
+    let required = required(a.circuit, edge, r);
+    let margin = match edge {
+        Edge::Late => required - arrival,
+        Edge::Early => arrival - required,
+    };
+    Ends {
+        arrival,
+        required,
+        margin,
+    }
+}
+
+// The margin of a register for one of its sums.
+fn margin(a: Arrivals<'_, '_>, edge: Edge, r: usize) -> i64
+    requires { r < registers_of a.circuit }
+    ensures { result ≡ margin_of edge (of a.entry.circuit machine_in) r }
+{
+    ends_of(a, edge, r).margin
 }
 
 // The three times of a register for one of its sums, None where there is no such register.
@@ -68,11 +75,7 @@ pub fn ends(a: Arrivals<'_, '_>, edge: Edge, register: usize) -> Option<Ends>
     if register >= a.circuit.register_count() {
         return None;
     }
-    Some(Ends {
-        arrival: arrival_at(a, edge, register),
-        required: required(a.circuit, edge, register),
-        margin: margin(a, edge, register),
-    })
+    Some(ends_of(a, edge, register))
 }
 
 // The smallest margin of one kind.

@@ -1,36 +1,19 @@
 -- A register at one moment: it stays in its cycle, or goes on to the next and decides what it takes.
-use Rattle.std.proofs.Common.{◌≡◌, ℕ, suc, ◌+◌, ◌-◌, ◌^◌, ◌<◌, ◌≤◌, min, Bool, true, false, cond, Option, Some, None, unwrap_or, List, length, get_or, sym, ap, ◌∙◌, arith}
-use Rattle.std.specs.Bool.{MatchBool}
-use Rattle.std.specs.List.{AllWithin, HoldsAt, range_with_len}
+use Rattle.std.proofs.Common.{◌≡◌, ℕ, suc, ◌+◌, ◌-◌, ◌^◌, ◌<◌, ◌≤◌, min, Bool, Option, unwrap_or, List, sym, ap, ◌∙◌, arith}
 use Rattle.std.proofs.lemmas.Nat.{pow_pos}
-use Rattle.std.proofs.lemmas.List.FromFn.{get_or-range_with_len, length-range_with_len}
 use Rattle.std.proofs.lemmas.Bool.{le-leb, lt-leb}
 use Rattle.circuit.specs.Lent.{register_count, register_in, output_late}
 use Rattle.circuit.specs.declared.register.Register.{Register}
-use Rattle.arrival.specs.Window.{Wave}
 use Rattle.promise.specs.Machine.{Machine, machine_in}
 use Rattle.history.specs.declared.history.History.{History}
 use Rattle.history.specs.Kept.{kept}
 use Rattle.simulation.specs.Simulated.{Told, cycle, bits, still, settled, first_seen, end_seen, shown_of, shows_at, run_waves, run_bits}
-use Rattle.simulation.proofs.Running.{cycle_until, clocks_later, register_shows, still_same, still_kept, still_not, some_seen}
+use Rattle.simulation.proofs.Running.{cycle_until, clocks_later, register_shows, still_same, some_seen}
 use Rattle.step.specs.Lent.{TellsRegister}
 use Rattle.step.specs.Stands.{Wide, Ready, Remembers, InCycle, Does, RegisterGoes, cycle_of}
 use Rattle.step.specs.declared.state.State.{State}
 use Rattle.step.specs.declared.registers.Doing.{Doing}
 use Rattle.step.specs.declared.told.Clocks.{Clocks}
-
--- a wave by whether it is at all moments what it was at first
-pub still_by : (f : Wave) (a e : ℕ) (b r : Bool) → b ≡ f a →
-    MatchBool r (AllWithin (λ u. f u ≡ b) (range_with_len a (e - a)) 0 (length (range_with_len a (e - a)))) ((k : ℕ) × (k < length (range_with_len a (e - a))) × HoldsAt (λ u. f u ≡ b → ⊥) (range_with_len a (e - a)) k) →
-    cond r (Some b) None ≡ still f a e
-still_by f a e b true first all = ap (λ (b : Bool). Some b) first ∙ sym (still_kept f a e (λ u l h.
-    let n : u - a < e - a = omega arith in
-    let at : get_or (range_with_len a (e - a)) (u - a) 0 ≡ u = get_or-range_with_len a (e - a) (u - a) 0 n ∙ omega arith in
-    rw (at, first) at (all (u - a) 0 (omega arith) (omega (arith, length-range_with_len a (e - a))))))
-still_by f a e b false first (k, l, other) =
-    let n : k < e - a = omega (arith, length-range_with_len a (e - a)) in
-    let at : get_or (range_with_len a (e - a)) k 0 ≡ a + k = get_or-range_with_len a (e - a) k 0 n in
-    sym (still_not f a e (a + k) (omega arith) (omega arith) (rw (at, first) at (other 0)))
 
 module _ (m : Machine) (x : Told) (ready : Ready m x) (t q n : ℕ) (h : q < m.registers) (past kept_bits : History) (now : InCycle m x t q n kept_bits) where
   goes_on : x.clock (suc n) q + m.output_late ≤ t → cycle m x q (suc t) ≡ suc n

@@ -17,11 +17,12 @@ fn still(past: &History, signal: usize, from: u64, end: u64) -> Option<bool>
     ensures { result ≡ still (kept past.now signal) from end }
 {
     let bit = past.get(signal, from);
-    if (from..end).all(|u| past.get(signal, u) == bit) {
-        Some(bit)
-    } else {
-        None
+    for u in from..end {
+        if past.get(signal, u) != bit {
+            return None;
+        }
     }
+    Some(bit)
 }
 
 // The bit that a signal kept at all moments from which a register with its clock at `clock` decides what it takes, if it
@@ -38,8 +39,8 @@ pub fn settled(past: &History, circuit: Circuit<'_>, signal: usize, clock: u64) 
 fn reached(moment: u64, time: u32, t: u64) -> bool
     ensures { result ≡ nat_le (moment + time) t }
 {
-    t.checked_sub(u64::from(time))
-        .is_some_and(|latest| moment <= latest)
+    let time = u64::from(time);
+    time <= t && moment <= t - time
 }
 
 // Whether a register with its clock at `clock` and the next one at `next` must show its bit at moment `t`: from the latest

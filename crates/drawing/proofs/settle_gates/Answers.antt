@@ -1,7 +1,7 @@
 use Rattle.std.proofs.Common.{arith}
 use Rattle.std.proofs.lemmas.List.{take_rest}
 use Rattle.circuit.proofs.Known.{sound_of}
-use Rattle.drawing.proofs.Settling.{none_yet, room, inputs, one_more}
+use Rattle.drawing.proofs.Settling.{none_yet, all_done, room, inputs, one_more}
 use Rattle.drawing.proofs.settle_gates.Goals as goal
 
 pub loop-gate-init : goal.loop-gate-init
@@ -21,3 +21,8 @@ loop-gate-preserved c =
     let e = c.in-Some.ensures.cases in
     let h = room _ _ (sound_of m) _ m.shaped.0 _ _ _ c.loop-gate.invariant e.enough in
     rw take_rest (one_more _ _ (sound_of m) _ m.shaped.0 _ _ _ c.loop-gate.invariant e.enough _ e.same _ c.from.ensures _ (omega arith) c.output_of.ensures)
+
+pub returns : goal.returns
+returns c =
+    let m = c.args.circuit in
+    rw (all_done _ _ (sound_of m) _ m.shaped.0 _ _ _ c.loop-gate.invariant c.in_default.ensures.cases) at c.loop-gate.invariant.filled

@@ -4,9 +4,6 @@ use Rattle.promise.specs.Machine.{machine_in, Passed}
 use Rattle.promise.proofs.Lent.{formed_in}
 use Rattle.signoff.proofs.judge.Goals as goal
 
-pub returns-in-Some : goal.returns-in-Some
-returns-in-Some c = let m = c.in_ok-miss.ensures in rw m.0 (c.in-Some.ensures, m.1, m.2)
-
 pub returns : goal.returns
 returns c =
     let m = c.args.a.circuit in

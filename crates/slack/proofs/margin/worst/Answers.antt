@@ -1,8 +1,13 @@
 use Rattle.std.proofs.Common.{◌∙◌, FitsSigned, w64, rules, arith}
 use Rattle.std.proofs.lemmas.Int.{ints, to_z-of_z}
-use Rattle.slack.proofs.MarginLaws.{smaller, no_smaller}
+use Rattle.slack.proofs.MarginLaws.{alone, smaller, no_smaller}
 use Rattle.slack.proofs.margin.worst.Goals.{then-margin-worst, else-margin-worst}
 use Rattle.slack.proofs.margin.worst.Goals as goal
+
+pub loop-register-init : goal.loop-register-init
+loop-register-init c =
+    let fits : FitsSigned w64 c.margin.result = omega (arith, ints) in
+    alone _ _ _ (to_z-of_z w64 _ fits ∙ c.margin.ensures)
 
 pub loop-register-preserved : goal.loop-register-preserved
 loop-register-preserved c =

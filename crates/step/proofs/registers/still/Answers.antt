@@ -1,19 +1,22 @@
-use Rattle.std.proofs.Common.{◌≡◌, refl, rules, tests}
-use Rattle.std.proofs.lemmas.Iterator.{YieldsList-from_range, cases_from_all}
+use mathlib.Core.Bool.{beq}
+use Rattle.std.proofs.Common.{◌≡◌, sym, ap, ◌∙◌, Some, Bool, true, false, not, arith}
 use Rattle.history.specs.Kept.{kept}
-use Rattle.step.proofs.Deciding.{still_by}
+use Rattle.simulation.proofs.Running.{still_kept, still_not}
 use Rattle.step.proofs.registers.still.Goals as goal
 
-pub returns-then-all : goal.returns-then-all
-returns-then-all c =
-    let f = kept c.args.past.now c.args.signal in
-    let b = c.get-bit.result in
-    rw c.if-all.true at (still_by f _ _ b c.all.result c.get-bit.ensures
-    (cases_from_all _ _ _ (λ u. f u ≡ b) (λ u. f u ≡ b → ⊥) c.all.ensures.ran (YieldsList-from_range c.args.from c.args.end _ refl refl) (λ x q k. search (rules, tests)) (λ x q k. search (rules, tests))))
+differ : (a b : Bool) → not (beq a b) ≡ true → a ≡ b → ⊥
+differ true true h e = cc
+differ true false h e = cc
+differ false true h e = cc
+differ false false h e = cc
 
-pub returns-else-all : goal.returns-else-all
-returns-else-all c =
+pub returns-then-get-bit : goal.returns-then-get-bit
+returns-then-get-bit c =
     let f = kept c.args.past.now c.args.signal in
-    let b = c.get-bit.result in
-    rw c.if-all.false at (still_by f _ _ b c.all.result c.get-bit.ensures
-    (cases_from_all _ _ _ (λ u. f u ≡ b) (λ u. f u ≡ b → ⊥) c.all.ensures.ran (YieldsList-from_range c.args.from c.args.end _ refl refl) (λ x q k. search (rules, tests)) (λ x q k. search (rules, tests))))
+    sym (still_not f c.args.from c.args.end c.loop-u.u c.loop-u.auto.u c.loop-u-test.true (λ e. differ _ _ c.if-get-bit.true (c.get.ensures ∙ e ∙ sym c.get-bit.ensures)))
+
+pub returns : goal.returns
+returns c =
+    let f = kept c.args.past.now c.args.signal in
+    let same = still_kept f c.args.from c.args.end (λ u l h. c.loop-u.invariant u l (omega arith) ∙ c.get-bit.ensures) in
+    ap (λ (b : Bool). Some b) c.get-bit.ensures ∙ sym same
