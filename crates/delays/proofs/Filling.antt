@@ -19,6 +19,11 @@ onto_one : (bs : List Bool) (b : Bool) (r : Result (List Bool) Expected) → ont
 onto_one bs b (Ok cs) = rw append_assoc refl
 onto_one bs b (Err e) = refl
 
+-- the first bit comes before the others, unless something else was expected
+bit_first : (r : Result ℕ Expected) (more : Result (List Bool) Expected) {b : Result Bool Expected} → and_then r bit_of ≡ b → and_then r (λ x. and_then (bit_of x) (λ b. and_then more (λ bs. Ok (b ∷ bs)))) ≡ and_then b (λ b. and_then more (λ bs. Ok (b ∷ bs)))
+bit_first (Ok x) more e = rw e refl
+bit_first (Err k) more e = ap (λ b. and_then b (λ b. and_then more (λ bs. Ok (b ∷ bs)))) e
+
 -- bs are the first of q bits of the words ws, and rest has the words after them
 pub record Filled (q : ℕ) (ws : List (List ℕ)) (bs : List Bool) (rest : List (List ℕ)) : Type 0 where
   pub within : length bs ≤ q
@@ -48,24 +53,18 @@ module _ {q : ℕ} {ws rest : List (List ℕ)} {bs : List Bool} (f : Filled q ws
         f.same ∙ rw (e, some) refl
 
     module _ (lt : length bs < q) where
-      pub bad_word : (k : Expected) → field false w ≡ Err k → bits q ws ≡ Err k
-      unfolding bits
-      bad_word k is =
-          let e : q - length bs ≡ suc (q - (length bs + 1)) = omega (arith, lt) in
-          f.same ∙ rw (e, some, is) refl
+      left : q - length bs ≡ suc (q - (length bs + 1))
+      left = omega (arith, lt)
 
-      pub bad_bit : (x : ℕ) (k : Expected) → field false w ≡ Ok x → bit_of x ≡ Err k → bits q ws ≡ Err k
+      pub bad_bit : (k : Expected) → Err k ≡ and_then (field false w) bit_of → bits q ws ≡ Err k
       unfolding bits
-      bad_bit x k is bit =
-          let e : q - length bs ≡ suc (q - (length bs + 1)) = omega (arith, lt) in
-          f.same ∙ rw (e, some, is, bit) refl
+      bad_bit k is = f.same ∙ rw (left, some) (ap (onto bs) (bit_first (field false w) (bits (q - (length bs + 1)) after) (sym is)))
 
-      pub next : (x : ℕ) (b : Bool) → field false w ≡ Ok x → bit_of x ≡ Ok b → Filled q ws (bs ++ (b ∷ [])) after
+      pub next : (b : Bool) → Ok b ≡ and_then (field false w) bit_of → Filled q ws (bs ++ (b ∷ [])) after
       unfolding bits
-      next x b is bit =
-          let e : q - length bs ≡ suc (q - (length bs + 1)) = omega (arith, lt) in
+      next b is =
           let l : length (bs ++ (b ∷ [])) ≡ length bs + 1 = length-append bs (b ∷ []) in
           record {
             within = omega (arith, l, lt);
-            same = f.same ∙ rw (e, some, is, bit) (onto_one bs b (bits (q - (length bs + 1)) after) ∙ ap (λ n. onto (bs ++ (b ∷ [])) (bits (q - n) after)) (sym l));
+            same = f.same ∙ rw (left, some) (ap (onto bs) (bit_first (field false w) (bits (q - (length bs + 1)) after) (sym is)) ∙ onto_one bs b (bits (q - (length bs + 1)) after) ∙ ap (λ n. onto (bs ++ (b ∷ [])) (bits (q - n) after)) (sym l));
           }

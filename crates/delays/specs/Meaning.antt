@@ -116,6 +116,18 @@ Stated o t r = MatchResult r (λ _. o ≡ Ok t) (λ e. (e ≡ Memory) ⊎ (o ≡
 abbrev pub ToldOnce : {A : Type 0} → Line → (o o' : Option A) → A → Result (Unit {0}) Expected → Type 0
 ToldOnce {A} l o o' x r = MatchResult r (λ _. (o ≡ None) × (o' ≡ Some x)) (λ e. (e ≡ Once l) × ((y : A) × (o ≡ Some y)) × (o' ≡ o))
 
+-- the same where the value may not have been read
+abbrev pub ReadOnce : {A : Type 0} → Line → (o o' : Option A) → Result A Expected → Result (Unit {0}) Expected → Type 0
+ReadOnce l o o' x r = MatchResult x (λ y. ToldOnce l o o' y r) (λ e. r ≡ Err e)
+
+-- the code's answer r for what is told on line n, with what it says after it
+abbrev pub LineStated : Result Told Expected → ℕ → Told → Result (Unit {0}) Fault → Type 0
+LineStated o n t r = MatchResult r (λ _. o ≡ Ok t) (λ f. (f.line ≡ n) × ((f.expected ≡ Memory) ⊎ (o ≡ Err f.expected)))
+
+-- the code's answer r for all lines of a text, the count of cycles, with what it says after it
+abbrev pub LinesStated : Outcome → Told → Result ℕ Fault → Type 0
+LinesStated o t r = MatchResult r (λ n. (o ≡ Ok t) × (t.cycles ≡ Some n)) (λ f. (f.expected ≡ Memory) ⊎ (o ≡ Err f))
+
 -- the code's answer r for a value, or what was expected or want of memory
 abbrev pub Valued : {A B : Type 0} → (A → B) → Result B Expected → Result A Expected → Type 0
 Valued view o r = MatchResult r (λ x. o ≡ Ok (view x)) (λ e. (e ≡ Memory) ⊎ (o ≡ Err e))

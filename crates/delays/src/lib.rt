@@ -1,9 +1,10 @@
 // Texts of delays and all else that a bench is told, read.
 #![tactic(auto)]
 
-ghost use Rattle.std.specs.Prelude.{◌≡◌, Some, MatchOption};
-ghost use Rattle.lines.specs.Words.{words, lines};
-ghost use Rattle.delays.specs.Meaning.{nothing, drafted, scripted, added, said, statement, meaning, Stated, ToldOnce, IsRead};
+ghost use Rattle.std.specs.Prelude.{◌≡◌, ◌-◌, ◌<◌, Some};
+ghost use Rattle.lines.specs.Words.{words, bare, lines};
+ghost use Rattle.delays.specs.Row.{and_then};
+ghost use Rattle.delays.specs.Meaning.{nothing, drafted, added, said, statement, meaning, Stated, LineStated, LinesStated, ReadOnce, IsRead};
 ghost use Rattle.delays.specs.ByLines.{FaultIsFirst, ToldByLines, ToldOfGate};
 
 use draft::Draft;
@@ -15,10 +16,15 @@ use std::alloc::Global;
 mod draft;
 mod row;
 
-// A value that may be told just once.
-fn once<T: Drop>(told: &mut Option<T>, value: T, line: Line) -> Result<(), Expected>
-    ensures { ToldOnce line told.old told.new value result }
+// A value that may be told just once, if it was read.
+fn once<T: Drop>(
+    told: &mut Option<T>,
+    value: Result<T, Expected>,
+    line: Line,
+) -> Result<(), Expected>
+    ensures { ReadOnce line told.old told.new value result }
 {
+    let value = value?;
     if told.is_some() {
         return Err(Expected::Once(line));
     }
@@ -38,7 +44,7 @@ impl Draft {
     }
 
     // One statement more, which has to come in order.
-    fn add(&mut self, kind: Kind, line: Line, entry: Entry) -> Result<(), Expected>
+    fn push(&mut self, kind: Kind, line: Line, entry: Entry) -> Result<(), Expected>
         ensures { Stated (added (drafted self.old) kind line entry) (drafted self.new) result }
     {
         if self.script.push(kind, entry)? {
@@ -46,6 +52,18 @@ impl Draft {
         } else {
             Err(Expected::NoEarlier(line))
         }
+    }
+
+    // The same, if it was read.
+    fn add(
+        &mut self,
+        kind: Kind,
+        line: Line,
+        entry: Result<Entry, Expected>,
+    ) -> Result<(), Expected>
+        ensures { Stated (and_then entry (added (drafted self.old) kind line)) (drafted self.new) result }
+    {
+        self.push(kind, line, entry?)
     }
 
     // Takes what follows the first word of a line, which has this number, counted from 0.
@@ -60,19 +78,17 @@ impl Draft {
         ensures { Stated (said registers at (drafted self.old) (Some line) (words rest.now)) (drafted self.new) result }
     {
         match line {
-            Line::Cycles => once(&mut self.cycles, row::number(rest, line)?, line),
-            Line::Start => {
-                let bits = row::bits(heap, rest, registers)?;
-                once(&mut self.script.start, bits, line)
-            }
-            Line::Random => {
-                let seed = u64::from(row::number(rest, line)?);
-                once(&mut self.script.seed, seed, line)
-            }
-            Line::Clock => self.add(Kind::Clock, line, row::entry(rest, at, line)?),
-            Line::Delay => self.add(Kind::Delay, line, row::delay(rest, at, registers)?),
-            Line::Show => self.add(Kind::Show, line, row::bit_entry(rest, at, line, registers)?),
-            Line::Take => self.add(Kind::Take, line, row::bit_entry(rest, at, line, registers)?),
+            Line::Cycles => once(&mut self.cycles, row::number(rest, line), line),
+            Line::Start => once(
+                &mut self.script.start,
+                row::bits(heap, rest, registers),
+                line,
+            ),
+            Line::Random => once(&mut self.script.seed, row::seed(rest, line), line),
+            Line::Clock => self.add(Kind::Clock, line, row::entry(rest, at, line)),
+            Line::Delay => self.add(Kind::Delay, line, row::delay(rest, at, registers)),
+            Line::Show => self.add(Kind::Show, line, row::bit_entry(rest, at, line, registers)),
+            Line::Take => self.add(Kind::Take, line, row::bit_entry(rest, at, line, registers)),
         }
     }
 
@@ -94,13 +110,33 @@ impl Draft {
         self.tell(heap, line, rest, at, registers)
     }
 
-    // All that is told, if the count of cycles is.
-    fn finish(self) -> Option<Script>
-        ensures { MatchOption result (self.cycles ≡ None) (λ s. (drafted self ≡ scripted s)) }
+    // The same with its comment, and its number counted from 1.
+    fn line(
+        &mut self,
+        heap: Global,
+        text: &[u8],
+        line: usize,
+        registers: usize,
+    ) -> Result<(), Fault>
+        requires { 0 < line }
+        ensures { LineStated (statement registers (line - 1) (drafted self.old) (words (bare text.now))) line (drafted self.new) result }
     {
-        let Draft { cycles, mut script } = self;
-        script.cycles = cycles?;
-        Some(script)
+        self.statement(heap, lines::bare(text), line - 1, registers)
+            .map_err(|expected| Fault { line, expected })
+    }
+
+    // Takes all lines of a text, and answers the count of cycles, which has to be told.
+    fn lines(&mut self, heap: Global, text: &[u8], registers: usize) -> Result<u32, Fault>
+        ensures { LinesStated (meaning registers 1 (drafted self.old) (lines text.now)) (drafted self.new) result }
+    {
+        let mut rest = Lines::new(text);
+        while let Some((line, text)) = rest.next() {
+            self.line(heap, text, line, registers)?;
+        }
+        self.cycles.ok_or(Fault {
+            line: rest.number,
+            expected: Expected::Cycles,
+        })
     }
 }
 
@@ -109,16 +145,8 @@ pub fn read(heap: Global, text: &[u8], registers: usize) -> Result<Script, Fault
     ensures { IsRead (meaning registers 1 nothing (lines text.now)) result }
 {
     let mut draft = Draft::new(heap);
-    let mut rest = Lines::new(text);
-    while let Some((line, text)) = rest.next() {
-        draft
-            .statement(heap, lines::bare(text), line - 1, registers)
-            .map_err(|expected| Fault { line, expected })?;
-    }
-    draft.finish().ok_or(Fault {
-        line: rest.number,
-        expected: Expected::Cycles,
-    })
+    draft.script.cycles = draft.lines(heap, text, registers)?;
+    Ok(draft.script)
 }
 
 // A text with no fault tells what its lines tell: each value that is told once on the one line that tells it, and the

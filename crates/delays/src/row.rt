@@ -1,8 +1,9 @@
 // The lines of delays and the like, each by itself.
-ghost use Rattle.std.specs.Prelude.{◌≡◌, vec_items};
+ghost use Rattle.std.specs.Prelude.{◌≡◌, false, OnOk, [], ◌∷◌, ◌++◌, vec_items};
 ghost use Rattle.lines.specs.Words.{words};
+ghost use Rattle.fields.specs.Fields.{field};
 ghost use Rattle.fields.specs.declared.line.Line.TheVariants.{Delay};
-ghost use Rattle.delays.specs.Row.{numbers, number_after, bit_of, bits, entry_after, bit_after, gate_of, delay_after};
+ghost use Rattle.delays.specs.Row.{and_then, numbers, number_after, bit_of, bits, entry_after, bit_after, gate_of, delay_after};
 ghost use Rattle.delays.specs.Meaning.{Valued};
 
 use fields::{Expected, Line};
@@ -30,6 +31,13 @@ pub(crate) fn number(text: &[u8], line: Line) -> Result<u32, Expected>
     Ok(number)
 }
 
+// The same, for a seed.
+pub(crate) fn seed(text: &[u8], line: Line) -> Result<u64, Expected>
+    ensures { result ≡ number_after line (words text.now) }
+{
+    Ok(u64::from(number(text, line)?))
+}
+
 // The bit that a number is.
 fn bit(number: u32) -> Result<bool, Expected>
     ensures { result ≡ bit_of number }
@@ -41,24 +49,45 @@ fn bit(number: u32) -> Result<bool, Expected>
     }
 }
 
+// The bit that a word is.
+fn word_bit(word: &[u8]) -> Result<bool, Expected>
+    ensures { result ≡ and_then (field false word.now) bit_of }
+{
+    bit(lines::value(word)?)
+}
+
+// One bit more.
+fn push(filled: &mut Vec<bool>, bit: bool) -> Result<(), AllocError>
+    ensures { OnOk result (vec_items filled.new ≡ vec_items filled.old ++ (bit ∷ [])) }
+{
+    Ok(filled.push(bit)?)
+}
+
+// Adds the bit of each word, of which there have to be as many as registers.
+fn fill(filled: &mut Vec<bool>, text: &[u8], registers: usize) -> Result<(), Expected>
+    requires { vec_items filled.old ≡ [] }
+    ensures { Valued (λ _. vec_items filled.new) (bits registers (words text.now)) result }
+{
+    let mut words = Words::new(text);
+    while let Some(word) = words.next() {
+        if filled.len() == registers {
+            return Err(Expected::After(Line::Start));
+        }
+        push(filled, word_bit(word)?)?;
+    }
+    if filled.len() < registers {
+        return Err(Expected::After(Line::Start));
+    }
+    Ok(())
+}
+
 // A bit for each register.
 pub(crate) fn bits(heap: Global, text: &[u8], registers: usize) -> Result<Vec<bool>, Expected>
     ensures { Valued (λ v. vec_items v) (bits registers (words text.now)) result }
 {
     let mut bits = Vec::new(heap);
-    let mut words = Words::new(text);
-    while let Some(word) = words.next() {
-        if bits.len() == registers {
-            return Err(Expected::After(Line::Start));
-        }
-        bits.push(bit(lines::value(word)?)?)
-            .map_err(AllocError::from)?;
-    }
-    if bits.len() == registers {
-        Ok(bits)
-    } else {
-        Err(Expected::After(Line::Start))
-    }
+    fill(&mut bits, text, registers)?;
+    Ok(bits)
 }
 
 // Moment or cycle, register, and value.

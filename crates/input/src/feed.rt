@@ -2,8 +2,6 @@
 ghost use Rattle.std.specs.Prelude.{◌≡◌, ℕ, ◌+◌, ◌<◌, ◌≤◌, min, false, true, IfOk, MatchResult, List, [], ◌++◌, drop, length, vec_items};
 ghost use Rattle.std.specs.Io.KnownBytes.{Consumes, IsAtEnd};
 ghost use Rattle.input.specs.Pieces.{whole, handed_out};
-ghost use Rattle.lines.specs.Words.{inline};
-ghost use Rattle.std.specs.List.{suffix_len};
 
 use std::alloc::Global;
 use std::io;
@@ -15,19 +13,15 @@ const PIECE: usize = 65_536;
 // As many are kept of a text that is there at once, so that a circuit is seldom read twice.
 const LEAST: usize = 1_048_576;
 
-// How many bytes follow the last newline.
-fn open_line(text: &[u8]) -> usize
-    ensures count { result ≡ suffix_len inline text.now }
-    ensures within { result ≤ length text.now }
-{
-    text.iter().rev().take_while(|b| **b != b'\n').count()
-}
-
 // A text as far as its last newline.
 fn whole(text: &[u8]) -> &[u8]
     ensures { result.now ≡ whole text.now }
 {
-    &text[..text.len() - open_line(text)]
+    let mut end = text.len();
+    while end > 0 && text[end - 1] != b'\n' {
+        end -= 1;
+    }
+    &text[..end]
 }
 
 // Whether so many bytes are enough to look at, where so many were needed before, and the last read gave so many: of a text
@@ -37,6 +31,17 @@ fn is_enough(kept: usize, needed: usize, last: usize) -> bool {
     paused && kept <= PIECE || kept >= needed.saturating_mul(2) && (paused || kept >= LEAST)
 }
 
+// Reads a piece, behind what is kept: of as many bytes as it answers, none only if the reader gives no more.
+fn read_piece<R: Read>(reader: &mut R, kept: &mut Vec<u8>) -> io::Result<usize>
+    ensures { IfOk result (λ n. ((more : List ℕ) × (length more ≡ n) × (vec_items kept.new ≡ vec_items kept.old ++ more) × Consumes (R.remaining reader.old) (R.remaining reader.new) more)
+        × (n ≡ 0 → IsAtEnd (R.remaining reader.new))) }
+{
+    let mut piece = [0; PIECE];
+    let n = reader.read(&mut piece)?;
+    kept.extend_from_slice(&piece[..n])?;
+    Ok(n)
+}
+
 // Reads on, until `kept` has enough or the reader gives no more: then true.
 fn read_on<R: Read>(reader: &mut R, kept: &mut Vec<u8>) -> io::Result<bool>
     ensures { IfOk result (λ ended. ((more : List ℕ) × (vec_items kept.new ≡ vec_items kept.old ++ more) × Consumes (R.remaining reader.old) (R.remaining reader.new) more)
@@ -44,13 +49,11 @@ fn read_on<R: Read>(reader: &mut R, kept: &mut Vec<u8>) -> io::Result<bool>
         × (ended ≡ false → length (vec_items kept.old) < length (vec_items kept.new))) }
 {
     let needed = kept.len();
-    let mut piece = [0; PIECE];
     for turn in 0..u64::MAX {
-        let n = reader.read(&mut piece)?;
+        let n = read_piece(reader, kept)?;
         if n == 0 {
             return Ok(true);
         }
-        kept.extend_from_slice(&piece[..n])?;
         if is_enough(kept.len(), needed, n) {
             break;
         }

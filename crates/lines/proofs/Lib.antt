@@ -1,3 +1,3 @@
-pub mod CursorLaws
 pub mod NumberLaws
+pub mod PrefixLaws
 pub mod WordLaws

@@ -1,7 +1,6 @@
 -- Laws of `number`.
-use Rattle.std.proofs.Common.{◌≡◌, ℕ, ◌+◌, ◌-◌, ◌*◌, ◌^◌, ◌<◌, ◌≤◌, min, true, List, [], ◌∷◌, length, get_or, take, Ok, Err, Result, MatchResult, ap, ◌∙◌, refl, inl, inr, arith}
+use Rattle.std.proofs.Common.{◌≡◌, ℕ, ◌+◌, ◌-◌, ◌*◌, ◌^◌, ◌<◌, ◌≤◌, min, true, List, [], ◌∷◌, length, get_or, take, Ok, Err, refl, inl, inr, arith}
 use Rattle.std.specs.Str.Parse.{digits_value, AllDigits}
-use Rattle.std.specs.Result.{OkIff}
 use Rattle.std.specs.Int.{IsInRange}
 use Rattle.std.specs.Str.{all_ascii_digits}
 use Rattle.std.proofs.lemmas.Int.Digits.{digits_value_more, digits_more}
@@ -9,7 +8,6 @@ use Rattle.std.proofs.lemmas.List.{take_all}
 use Rattle.std.proofs.lemmas.Str.Parse.{IsNumeralModel, numerals_by_value, tells_all_ascii_digits, digit_at}
 use Rattle.std.proofs.lemmas.Str.{digit_value_digit}
 use Rattle.std.proofs.lemmas.Bool.{cases_Bool, lt-ltb, le-ltb}
-use Rattle.lines.specs.declared.Unread.{Unread}
 use Rattle.lines.specs.declared.Unread.TheVariants.{NoDigit, TooLarge}
 use Rattle.lines.specs.Numbers.{number}
 
@@ -58,9 +56,3 @@ strange w i lt no_digit =
       | inl e ↦ absurd (no_digit (digit_at w i (own.to w e) lt))
       | inr e ↦ simp (e, lt-ltb 0 (length w) (omega arith))
     ]
-
--- the number that fits 32 bits, or that it is too large
-pub told : {E : Type 0} (w : List ℕ) (i n : ℕ) (fit : Result ℕ E) (r : Result ℕ Unread) → 0 < length w → length w ≤ i → Sofar w i n → OkIff fit (n < 2 ^ 32) n
-    → MatchResult fit (λ x. r ≡ Ok x) (λ _. r ≡ Err TooLarge) → r ≡ number w
-told w i n (Ok x) r some whole s (small, x_is) r_is = r_is ∙ ap Ok x_is ∙ done w i n some whole s small
-told w i n (Err e) r some whole s big r_is = r_is ∙ large w i n some whole s (omega (arith, big))

@@ -1,9 +1,9 @@
 -- Laws of `words`.
-use Rattle.std.proofs.Common.{◌≡◌, ℕ, suc, ◌+◌, ◌-◌, ◌<◌, ◌≤◌, List, [], ◌∷◌, length, take, drop, sym, refl, ap, ◌∙◌, inl, inr, add-one, one-add, arith}
-use Rattle.std.proofs.lemmas.List.{drop-drop, take_rest, drop_all, nil_from_length, length-drop}
+use Rattle.std.proofs.Common.{◌≡◌, ℕ, suc, ◌+◌, ◌-◌, ◌<◌, ◌≤◌, min, ◌==◌, false, List, [], ◌∷◌, length, take, drop, sym, refl, ap, ◌∙◌, inl, inr, add-one, one-add, arith}
+use Rattle.std.proofs.lemmas.List.{drop-drop, take_rest, drop_all, nil_from_length, length-drop, length-take}
 use Rattle.std.proofs.lemmas.List.Sums.{prefix_len-le-length}
 use Rattle.std.specs.List.{prefix_len}
-use Rattle.std.proofs.lemmas.Bool.{cases_Bool}
+use Rattle.std.proofs.lemmas.Bool.{cases_Bool, eqb-false}
 use Rattle.lines.specs.Words.{blank, ink, onto, words, inline, lines, IsEnd}
 
 -- blanks in front change nothing
@@ -57,10 +57,10 @@ module _ (s l rest : List ℕ) (some : 0 < length s) (l_is : l ≡ take (prefix_
       let e : drop 1 rest ≡ drop (suc (prefix_len inline s)) s = ap (drop 1) rest_is ∙ drop-drop 1 (prefix_len inline s) s ∙ ap (λ k. drop k s) (add-one (prefix_len inline s)) in
       lines_first s some ∙ (let f : take (prefix_len inline s) s ≡ l = cc in let g : drop (suc (prefix_len inline s)) s ≡ drop 1 rest = cc in cc)
 
-  pub cut_line : lines s ≡ l ∷ lines (take (length rest - 1) (drop 1 rest))
+  cut_line : lines s ≡ l ∷ lines (take (length rest - 1) (drop 1 rest))
   cut_line = past_newline ∙ ap (λ x. l ∷ lines x) (sym (take_rest rest 1))
 
-  pub last_line : length rest ≡ 0 → lines s ≡ l ∷ lines rest
+  last_line : length rest ≡ 0 → lines s ≡ l ∷ lines rest
   last_line none = past_newline ∙ ap (λ x. l ∷ lines x) (drop_all 1 rest (omega arith) ∙ sym (nil_from_length rest none))
 
 -- what is dropped to is an end
@@ -74,13 +74,37 @@ module _ (s rest : List ℕ) (rest_is : rest ≡ drop (prefix_len inline s) s) w
   count : length rest ≡ length s - prefix_len inline s
   count = ap length rest_is ∙ length-drop (prefix_len inline s) s
 
-  pub cut_end : 0 < length rest → IsEnd (take (length rest - 1) (drop 1 rest)) s
+  cut_end : 0 < length rest → IsEnd (take (length rest - 1) (drop 1 rest)) s
   cut_end some =
       let e : drop 1 rest ≡ drop (prefix_len inline s + 1) s = ap (drop 1) rest_is ∙ drop-drop 1 (prefix_len inline s) s in
       dropped s _ (prefix_len inline s + 1) (omega (arith, count)) (take_rest rest 1 ∙ e)
 
-  pub last_end : length rest ≡ 0 → IsEnd rest s
+  last_end : length rest ≡ 0 → IsEnd rest s
   last_end none = dropped s rest (prefix_len inline s) (prefix_len-le-length inline s) rest_is
+
+-- the same where the text is cut after n bytes
+module _ (s l rest : List ℕ) (n : ℕ) (some : false ≡ (length s == 0)) (n_is : n ≡ prefix_len inline s) (front : l ≡ take n s) (back : rest ≡ drop n s) where
+  longer : 0 < length s
+  longer = let ne = eqb-false (length s) 0 (sym some) in omega (arith, ne)
+
+  l_is : l ≡ take (prefix_len inline s) s
+  l_is = front ∙ ap (λ k. take k s) n_is
+
+  rest_is : rest ≡ drop (prefix_len inline s) s
+  rest_is = back ∙ ap (λ k. drop k s) n_is
+
+  left : length rest ≡ length s - n
+  left = ap length back ∙ length-drop n s
+
+  pub first_line : 1 ≤ length rest → (lines s ≡ l ∷ lines (take (length rest - 1) (drop 1 rest))) × (length (take (length rest - 1) (drop 1 rest)) < length s) × IsEnd (take (length rest - 1) (drop 1 rest)) s
+  first_line more =
+      let shorter : length (take (length rest - 1) (drop 1 rest)) ≡ min (length rest - 1) (length (drop 1 rest)) = length-take (length rest - 1) (drop 1 rest) in
+      (cut_line s l rest longer l_is rest_is, omega (arith, shorter, left, longer), cut_end s rest rest_is more)
+
+  pub only_line : length rest < 1 → (lines s ≡ l ∷ lines rest) × (length rest < length s) × IsEnd rest s
+  only_line none =
+      let empty : length rest ≡ 0 = omega (arith, none) in
+      (last_line s l rest longer l_is rest_is empty, omega (arith, longer, empty), last_end s rest rest_is empty)
 
 -- an end of an end
 pub end_of_end : (s t u : List ℕ) → length t ≤ length s → length u ≤ length t → IsEnd t s → IsEnd u t → IsEnd u s

@@ -23,7 +23,7 @@ const COMMENT: u8 = b'#';
 const LIMIT: u64 = 1 << 32;
 
 // Why a word is no number.
-#[derive(Clone, Copy, PartialEq, Debug)]
+#[derive(Clone, Copy)]
 pub enum Unread {
     // It has another byte than a digit.
     NoDigit,
@@ -50,11 +50,14 @@ fn until(s: &[u8], mark: u8) -> usize
     ensures count { result ≡ prefix_len (λ b. not (b == mark)) s.now }
     ensures within { result ≤ length s.now }
 {
-    s.iter().take_while(|b| **b != mark).count()
+    let mut n = 0;
+    while n < s.len() && s[n] != mark {
+        n += 1;
+    }
+    n
 }
 
 // The first line, and what follows its newline; None at the text's end.
-#[tactic(auto, using(crate::proofs::WordLaws::cut_line, crate::proofs::WordLaws::last_line, crate::proofs::WordLaws::cut_end, crate::proofs::WordLaws::last_end))]
 pub fn line(s: &[u8]) -> Option<(&[u8], &[u8])>
     ensures { FirstLine s.now result }
 {
@@ -80,7 +83,11 @@ fn blanks(s: &[u8]) -> usize
     ensures count { result ≡ prefix_len blank s.now }
     ensures within { result ≤ length s.now }
 {
-    s.iter().take_while(|b| is_blank(**b)).count()
+    let mut n = 0;
+    while n < s.len() && is_blank(s[n]) {
+        n += 1;
+    }
+    n
 }
 
 // How many bytes stand before the first blank.
@@ -88,7 +95,11 @@ fn inked(s: &[u8]) -> usize
     ensures count { result ≡ prefix_len ink s.now }
     ensures within { result ≤ length s.now }
 {
-    s.iter().take_while(|b| !is_blank(**b)).count()
+    let mut n = 0;
+    while n < s.len() && !is_blank(s[n]) {
+        n += 1;
+    }
+    n
 }
 
 // The first word, and what follows it; None where there is none.
@@ -118,5 +129,8 @@ pub fn value(word: &[u8]) -> Result<u32, Unread>
         // Past the limit the rest is still looked at, since a word with another byte is no number at all.
         n = (n * 10 + u64::from(*b - b'0')).min(LIMIT);
     }
-    u32::try_from(n).map_err(|_| Unread::TooLarge)
+    if n == LIMIT {
+        return Err(Unread::TooLarge);
+    }
+    Ok(n as u32)
 }

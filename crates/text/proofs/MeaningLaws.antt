@@ -1,20 +1,17 @@
 -- Laws of what a text of circuits means.
-use Rattle.std.proofs.Common.{◌≡◌, ℕ, zero, suc, ◌+◌, ◌-◌, ◌⊎◌, Bool, false, List, [], ◌∷◌, ◌++◌, slice_get, Some, None, Ok, Err, Option, Result, MatchOption, sym, refl, ap, ◌∙◌, inl, inr, arith}
-use Rattle.std.specs.Borrow.{Bor}
-use Rattle.std.specs.Iterator.{YieldsFirstRef}
-use Rattle.std.specs.List.{filter_map, enumerate_from}
+use Rattle.std.proofs.Common.{◌≡◌, ℕ, ◌+◌, ◌-◌, ◌⊎◌, Bool, true, false, List, [], ◌∷◌, ◌++◌, Some, None, Ok, Err, Option, Result, sym, refl, ap, ◌∙◌, inl, inr}
 use Rattle.std.specs.Str.{bytes_eq}
-use Rattle.std.specs.Bool.{then_some}
-use Rattle.std.proofs.lemmas.Bool.{cases_Bool, ne_eqb}
+use Rattle.std.proofs.lemmas.Bool.{ne_eqb}
 use Rattle.lines.specs.Words.{bare, words}
 use Rattle.fields.specs.declared.fault.Expected.{Expected}
-use Rattle.fields.specs.declared.fault.Expected.TheVariants.{End as Ending}
+use Rattle.fields.specs.declared.fault.Expected.TheVariants.{Memory, End as Ending}
+use Rattle.fields.specs.declared.fault.Fault.{Fault}
 use Rattle.text.specs.declared.draft.Keyword.{Keyword}
 use Rattle.text.specs.declared.draft.Miscount.{Miscount}
 use Rattle.text.specs.declared.part.Part.{Part}
 use Rattle.text.specs.declared.draft.Progress.{Progress}
 use Rattle.text.specs.declared.draft.Progress.TheVariants.{More}
-use Rattle.text.specs.Meaning.{Drafted, meaning, noted, row, said, statement, went, inside, opened, found, first_circuit, begins_with, line_of}
+use Rattle.text.specs.Meaning.{Drafted, meaning, noted, row, said, statement, went, inside, opened, found, first_circuit, begins_with, line_of, Outcome, Taken, Stated, IsAtFault}
 
 -- a line with a word
 pub at_word : {ws rest : List (List ℕ)} {w : List ℕ} (n : ℕ) (d : Drafted) (k : Option Keyword) → ws ≡ w ∷ rest → k ≡ meaning w → statement n d ws ≡ said k n d rest
@@ -27,10 +24,18 @@ pub added : (put : List ℕ → Option Miscount → Drafted) (xs : List ℕ) (m 
 added put xs m p n is (inl (ns, x_is, xs_is, m_is)) = rw (xs_is, m_is) (is ∙ rw x_is refl)
 added put xs m p n is (inr (x_is, xs_is, m_is)) = rw (xs_is, m_is) (is ∙ rw x_is refl)
 
+pub taken : (put : List ℕ → Option Miscount → Drafted) (xs : List ℕ) (m : Option Miscount) (p : Part) (n : ℕ) {o : Result (Progress × Drafted) Expected} (x : Result (Option (List ℕ)) Expected) → o ≡ row put xs m p n x
+    → (xs' : List ℕ) (m' : Option Miscount) (r : Result Progress Expected) → Taken x p n xs xs' m m' r → Stated o (put xs' m') r
+taken put xs m p n x is xs' m' (Ok q) (q_is, how) = rw q_is (added put xs m p n is how)
+taken put xs m p n x is xs' m' (Err k) (inl memory) = inl memory
+taken put xs m p n x is xs' m' (Err k) (inr e) = inr (is ∙ rw e refl)
+
 -- whether the first word is this one
-pub begun : (word : List ℕ) (ws : List (List ℕ)) (r : Option (Bor (List ℕ))) (t : List (List ℕ)) (b : Bool) → YieldsFirstRef (λ xs. xs) ws r t → MatchOption r (b ≡ false) (λ w. b ≡ bytes_eq w.now word) → b ≡ begins_with word ws
-begun word ws None t b (none, left) e = rw none e
-begun word ws (Some w) t b some e = rw some e
+pub begun : (word : List ℕ) {ws vs : List (List ℕ)} {w : List ℕ} → ws ≡ w ∷ vs → bytes_eq w word ≡ begins_with word ws
+begun word first = rw first refl
+
+pub not_begun : (word : List ℕ) {ws : List (List ℕ)} → ws ≡ [] → false ≡ begins_with word ws
+not_begun word none = rw none refl
 
 -- a step of the cursor inside of a circuit, and outside of one
 module _ {xs ls : List (List ℕ)} {l b : List ℕ} {n k m : ℕ} (k_is : k ≡ n) (m_is : m ≡ n + 1) (first : xs ≡ l ∷ ls) (b_is : b ≡ bare l) where
@@ -50,16 +55,29 @@ pub no_line_outside : (n : ℕ) {xs : List (List ℕ)} → xs ≡ [] → first_c
 unfolding first_circuit
 no_line_outside n none = rw none refl
 
--- the search for a line goes through the numbers of those that begin with the word
-abbrev pub number_if : (word : List ℕ) → ℕ × List ℕ → Option ℕ
-number_if word x = then_some (begins_with word (words (bare x.1))) x.0
+-- a line that is at fault, below lines that are not
+pub at_fault : {m : Outcome} {xs ls : List (List ℕ)} {l : List ℕ} {n k : ℕ} (d : Drafted) (f : Fault) → m ≡ inside n d xs → k ≡ n → xs ≡ l ∷ ls → IsAtFault (statement k d (words (bare l))) k f → (f.expected ≡ Memory) ⊎ (m ≡ Err f)
+at_fault d f m_is k_is first (line, inl memory) = inl memory
+at_fault d f m_is k_is first (line, inr e) = inr (m_is ∙ one_line k_is refl first refl d ∙ rw e (ap (λ j. Err (record { line = j; expected = f.expected })) (sym line)))
 
-pub searched : (word : List ℕ) (i n : ℕ) (ls : List (List ℕ)) → slice_get (filter_map (number_if word) (enumerate_from n ls)) i ≡ line_of word i n ls
+pub at_fault_outside : {m : Outcome} {xs ls : List (List ℕ)} {l : List ℕ} {n k : ℕ} (f : Fault) → m ≡ first_circuit n xs → k ≡ n → xs ≡ l ∷ ls → IsAtFault (opened k (words (bare l))) k f → (f.expected ≡ Memory) ⊎ (m ≡ Err f)
+at_fault_outside f m_is k_is first (line, inl memory) = inl memory
+at_fault_outside f m_is k_is first (line, inr e) = inr (m_is ∙ one_outside k_is refl first refl ∙ rw e (ap (λ j. Err (record { line = j; expected = f.expected })) (sym line)))
+
+-- the search for the line that is number i of those that begin with the word
+module _ (word : List ℕ) {xs ls : List (List ℕ)} {l : List ℕ} {n k m : ℕ} (k_is : k ≡ n) (m_is : m ≡ n + 1) (first : xs ≡ l ∷ ls) where
+  pub here : (b : Bool) → b ≡ begins_with word (words (bare l)) → b ≡ true → line_of word 0 n xs ≡ Some k
+  unfolding line_of
+  here b b_is so = rw (first, ← b_is, so, k_is) refl
+
+  pub one_fewer : (i : ℕ) (b : Bool) → b ≡ begins_with word (words (bare l)) → b ≡ true → (i ≡ 0 → ⊥) → line_of word i n xs ≡ line_of word (i - 1) m ls
+  unfolding line_of
+  one_fewer i b b_is so some = rw (first, ← b_is, so, m_is, ne_eqb i 0 some) refl
+
+  pub passed : (i : ℕ) (b : Bool) → b ≡ begins_with word (words (bare l)) → b ≡ false → line_of word i n xs ≡ line_of word i m ls
+  unfolding line_of
+  passed i b b_is not_so = rw (first, ← b_is, not_so, m_is) refl
+
+pub no_such_line : (word : List ℕ) (i n : ℕ) {xs : List (List ℕ)} → xs ≡ [] → line_of word i n xs ≡ None
 unfolding line_of
-searched word i n [] = refl
-searched word zero n (l ∷ ls) = elim (cases_Bool (begins_with word (words (bare l)))) [ inl e ↦ simp e refl | inr e ↦ simp e (searched word zero (n + 1) ls) ]
-searched word (suc i) n (l ∷ ls) =
-    elim (cases_Bool (begins_with word (words (bare l)))) [
-      | inl e ↦ let less : suc i - 1 ≡ i = omega arith in simp (e, ne_eqb (suc i) 0 (λ z. omega arith), less) (searched word i (n + 1) ls)
-      | inr e ↦ simp e (searched word (suc i) (n + 1) ls)
-    ]
+no_such_line word i n none = rw none refl

@@ -173,3 +173,22 @@ Titled t r = MatchResult r (λ name. t ≡ Ok name.now) (λ e. t ≡ Err e)
 -- the code's answer r for a line outside of a circuit
 abbrev pub Opened : Result (Option Drafted) Expected → Result (Option Draft) Expected → Type 0
 Opened o r = MatchResult r (λ d. o ≡ Ok (option_map drafted d)) (λ e. (e ≡ Memory) ⊎ (o ≡ Err e))
+
+-- the same r where a circuit goes on after the line
+abbrev pub Taken : Result (Option (List ℕ)) Expected → (p : Part) (n : ℕ) (xs xs' : List ℕ) (m m' : Option Miscount) → Result Progress Expected → Type 0
+Taken x p n xs xs' m m' r =
+    MatchResult r
+    (λ q. (q ≡ More) × (((ns : List ℕ) × (x ≡ Ok (Some ns)) × (xs' ≡ xs ++ ns) × (m' ≡ m)) ⊎ ((x ≡ Ok None) × (xs' ≡ xs) × (m' ≡ noted m p n))))
+    (λ k. (k ≡ Memory) ⊎ (x ≡ Err k))
+
+-- what was expected on line n, by the code's fault f, where o is what the line says
+abbrev pub IsAtFault : {A : Type 0} → Result A Expected → ℕ → Fault → Type 0
+IsAtFault o n f = (f.line ≡ n) × ((f.expected ≡ Memory) ⊎ (o ≡ Err f.expected))
+
+-- the code's answer r for line n, with the draft d after it
+abbrev pub LineStated : Result (Progress × Drafted) Expected → ℕ → Drafted → Result Progress Fault → Type 0
+LineStated o n d r = MatchResult r (λ p. o ≡ Ok (p, d)) (IsAtFault o n)
+
+-- the code's answer r for line n outside of a circuit
+abbrev pub LineOpened : Result (Option Drafted) Expected → ℕ → Result (Option Draft) Fault → Type 0
+LineOpened o n r = MatchResult r (λ d. o ≡ Ok (option_map drafted d)) (IsAtFault o n)

@@ -3,7 +3,7 @@ use crate::part::Part;
 use lines::Lines;
 
 // What a line is, by its first word.
-#[derive(Clone, Copy, PartialEq, Debug)]
+#[derive(Clone, Copy)]
 pub enum Keyword {
     Circuit,
     Times,
@@ -33,7 +33,7 @@ pub struct Draft {
 }
 
 // Whether a circuit goes on after a line.
-#[derive(Clone, Copy, PartialEq, Debug)]
+#[derive(Clone, Copy)]
 pub enum Progress {
     More,
     Done,

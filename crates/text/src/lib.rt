@@ -1,12 +1,12 @@
 // Texts of circuits, read.
 #![tactic(auto)]
 
-ghost use Rattle.std.specs.Prelude.{◌≡◌, ℕ, ◌*◌, ◌^◌, ◌<◌, ◌≤◌, List, ◌++◌, length, Some, None, Ok, Err, MatchResult};
+ghost use Rattle.std.specs.Prelude.{◌≡◌, ℕ, ◌*◌, ◌^◌, ◌<◌, ◌≤◌, List, ◌++◌, length, vec_items, Some, None, Ok, Err, MatchResult};
 ghost use Rattle.std.specs.List.{list_all};
 ghost use Rattle.lines.specs.Words.{words, lines, bare};
 ghost use Rattle.fields.specs.Fields.{fields};
-ghost use Rattle.text.specs.Meaning.{meaning, drafted, noted, statement, inside, printable, title, opened, first_circuit, begins_with, line_of, Added, Ended, Stated, Titled, Opened};
-ghost use Rattle.text.specs.Read.{WasRead, IsRead};
+ghost use Rattle.text.specs.Meaning.{meaning, drafted, noted, statement, inside, fresh, printable, title, opened, first_circuit, begins_with, line_of, Added, Taken, Ended, Stated, LineStated, Titled, Opened, LineOpened};
+ghost use Rattle.text.specs.Read.{ToEnd, FirstOpened, IsRead};
 
 use fields::{Expected, Fault};
 use lines::{Lines, Words};
@@ -24,13 +24,18 @@ impl Keyword {
     fn of(word: &[u8]) -> Option<Keyword>
         ensures { result ≡ meaning word.now }
     {
-        match word {
-            b"gate" => Some(Keyword::Gate),
-            b"register" => Some(Keyword::Register),
-            b"times" => Some(Keyword::Times),
-            b"circuit" => Some(Keyword::Circuit),
-            b"end" => Some(Keyword::End),
-            _ => None,
+        if lines::same(word, b"gate") {
+            Some(Keyword::Gate)
+        } else if lines::same(word, b"register") {
+            Some(Keyword::Register)
+        } else if lines::same(word, b"times") {
+            Some(Keyword::Times)
+        } else if lines::same(word, b"circuit") {
+            Some(Keyword::Circuit)
+        } else if lines::same(word, b"end") {
+            Some(Keyword::End)
+        } else {
+            None
         }
     }
 }
@@ -85,6 +90,21 @@ fn add<const N: usize>(
     Ok(())
 }
 
+// The same; a circuit goes on after such a line.
+fn take<const N: usize>(
+    text: &[u8],
+    line: usize,
+    row: Row,
+    so_far: &mut Vec<u32>,
+    miscount: &mut Option<Miscount>,
+) -> Result<Progress, Expected>
+    requires { N * 4 < 2 ^ 63 }
+    ensures { Taken (fields row.table_at 0 N (words text.now)) row.part line so_far.old.items so_far.new.items miscount.old miscount.new result }
+{
+    add::<N>(text, line, row, so_far, miscount)?;
+    Ok(Progress::More)
+}
+
 // No more words.
 fn nothing(text: &[u8]) -> Result<(), Expected>
     ensures { Ended (words text.now) result }
@@ -105,22 +125,59 @@ impl Draft {
         };
         let miscount = &mut self.miscount;
         match Keyword::of(word) {
-            Some(Keyword::Gate) => add::<7>(rest, line, GATE, &mut self.gates, miscount)?,
-            Some(Keyword::Register) => add::<3>(
+            Some(Keyword::Gate) => take::<7>(rest, line, GATE, &mut self.gates, miscount),
+            Some(Keyword::Register) => take::<3>(
                 rest,
                 line,
                 REGISTER,
                 &mut self.registers,
                 miscount,
-            )?,
-            Some(Keyword::Times) => add::<5>(rest, line, TIMES, &mut self.times, miscount)?,
+            ),
+            Some(Keyword::Times) => take::<5>(rest, line, TIMES, &mut self.times, miscount),
             Some(Keyword::End) => {
                 nothing(rest)?;
-                return Ok(Progress::Done);
+                Ok(Progress::Done)
             }
-            Some(Keyword::Circuit) | None => return Err(Expected::Statement),
+            Some(Keyword::Circuit) | None => Err(Expected::Statement),
         }
-        Ok(Progress::More)
+    }
+
+    // The same with its comment.
+    fn line(&mut self, text: &[u8], line: usize) -> Result<Progress, Fault>
+        ensures { LineStated (statement line (drafted self.old) (words (bare text.now))) line (drafted self.new) result }
+    {
+        self.statement(lines::bare(text), line)
+            .map_err(|expected| Fault { line, expected })
+    }
+
+    // Takes the lines from inside a circuit to its end.
+    fn lines(&mut self, rest: &mut Lines) -> Result<(), Fault>
+        ensures { ToEnd (inside rest.old.number (drafted self.old) (lines rest.old.text.now)) rest.old.text.now (drafted self.new) rest.new.number rest.new.text.now result }
+    {
+        while let Some((line, text)) = rest.next() {
+            match self.line(text, line)? {
+                Progress::More => {}
+                Progress::Done => return Ok(()),
+            }
+        }
+        Err(Fault {
+            line: rest.number,
+            expected: Expected::End,
+        })
+    }
+
+    // A circuit with this name, none of whose lines was read.
+    fn new(heap: Global, name: Vec<u8>, line: usize) -> Draft
+        ensures { drafted result ≡ fresh (vec_items name) line }
+    {
+        Draft {
+            name,
+            line,
+            gates: Vec::new(heap),
+            registers: Vec::new(heap),
+            times: Vec::new(heap),
+            miscount: None,
+        }
     }
 
     // The beginning of a circuit, None where a line has no word.
@@ -133,14 +190,27 @@ impl Draft {
         if !lines::same(word, b"circuit") {
             return Err(Expected::Circuit);
         }
-        Ok(Some(Draft {
-            name: Vec::from_slice(heap, title(rest)?)?,
-            line,
-            gates: Vec::new(heap),
-            registers: Vec::new(heap),
-            times: Vec::new(heap),
-            miscount: None,
-        }))
+        let name = Vec::from_slice(heap, title(rest)?)?;
+        Ok(Some(Draft::new(heap, name, line)))
+    }
+
+    // The same with its comment.
+    fn open_line(heap: Global, text: &[u8], line: usize) -> Result<Option<Draft>, Fault>
+        ensures { LineOpened (opened line (words (bare text.now))) line result }
+    {
+        Draft::open(heap, lines::bare(text), line).map_err(|expected| Fault { line, expected })
+    }
+
+    // The beginning of the first circuit of some lines, None where there is none.
+    fn first(heap: Global, rest: &mut Lines) -> Result<Option<Draft>, Fault>
+        ensures { FirstOpened (first_circuit rest.old.number (lines rest.old.text.now)) rest.old.text.now rest.new.number rest.new.text.now result }
+    {
+        while let Some((line, text)) = rest.next() {
+            if let Some(draft) = Draft::open_line(heap, text, line)? {
+                return Ok(Some(draft));
+            }
+        }
+        Ok(None)
     }
 }
 
@@ -166,56 +236,41 @@ fn title(text: &[u8]) -> Result<&[u8], Expected>
     }
 }
 
-// The lines from inside a circuit to its end.
-fn inside<'a>(mut rest: Lines<'a>, mut draft: Draft) -> Result<Read<'a>, Fault>
-    ensures { WasRead (inside rest.entry.number (drafted draft) (lines rest.entry.text.now)) rest.entry.text.now result }
-{
-    while let Some((line, text)) = rest.next() {
-        let progress = draft
-            .statement(lines::bare(text), line)
-            .map_err(|expected| Fault { line, expected })?;
-        match progress {
-            Progress::More => {}
-            Progress::Done => return Ok(Read { draft, rest }),
-        }
-    }
-    Err(Fault {
-        line: rest.number,
-        expected: Expected::End,
-    })
-}
-
 // The first circuit of a text, None where there is none; lines are counted from 1.
 pub fn read<'a>(heap: Global, text: &'a [u8]) -> Result<Option<Read<'a>>, Fault>
     ensures { IsRead (first_circuit 1 (lines text.now)) text.now result }
 {
     let mut rest = Lines::new(text);
-    while let Some((line, text)) = rest.next() {
-        let draft = Draft::open(heap, lines::bare(text), line).map_err(|expected| Fault {
-            line,
-            expected,
-        })?;
-        if let Some(draft) = draft {
-            return Ok(Some(inside(rest, draft)?));
-        }
-    }
-    Ok(None)
+    let Some(mut draft) = Draft::first(heap, &mut rest)? else {
+        return Ok(None);
+    };
+    draft.lines(&mut rest)?;
+    Ok(Some(Read { draft, rest }))
 }
 
 // Whether a line begins with a word.
 fn begins_with(line: &[u8], word: &[u8]) -> bool
     ensures { result ≡ begins_with word.now (words (bare line.now)) }
 {
-    Words::new(lines::bare(line))
-        .next()
-        .is_some_and(|first| lines::same(first, word))
+    let Some((first, _)) = lines::word(lines::bare(line)) else {
+        return false;
+    };
+    lines::same(first, word)
 }
 
 // The number of the line, counted from 1, that is number `index`, counted from 0, of those that begin with a word.
 pub fn line_of(text: &[u8], word: &[u8], index: usize) -> Option<usize>
     ensures { result ≡ line_of word.now index 1 (lines text.now) }
 {
-    Lines::new(text)
-        .filter_map(|(n, line)| begins_with(line, word).then_some(n))
-        .nth(index)
+    let mut rest = Lines::new(text);
+    let mut before = index;
+    while let Some((n, line)) = rest.next() {
+        if begins_with(line, word) {
+            if before == 0 {
+                return Some(n);
+            }
+            before -= 1;
+        }
+    }
+    None
 }

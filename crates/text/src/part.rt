@@ -5,7 +5,7 @@ ghost use Rattle.text.specs.Meaning.{refusal_of};
 use circuit::Refusal;
 
 // A part of a circuit, in the order in which miscounted lines are kept.
-#[derive(Clone, Copy, PartialEq, Eq, PartialOrd, Ord, Debug)]
+#[derive(Clone, Copy, PartialEq, PartialOrd)]
 pub enum Part {
     Gates,
     Registers,

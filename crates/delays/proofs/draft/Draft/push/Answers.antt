@@ -1,5 +1,5 @@
 use Rattle.delays.proofs.Adding.{pushed, refused}
-use Rattle.delays.proofs.draft.Draft.add.Goals as goal
+use Rattle.delays.proofs.draft.Draft.push.Goals as goal
 
 pub returns-then-branch : goal.returns-then-branch
 returns-then-branch c = pushed _ _ _ _ _ _ (rw c.if-branch.true at c.in_ok-push.ensures)
