@@ -21,16 +21,13 @@ impl Bench<'_> {
         ensures value { (g rs ts : List ℕ) → begin ≡ n * period ts → begin ≤ 2 ^ 63 → result ≡ clock_between self.entry.script.now g rs ts n r low high }
         ensures bound { result ≤ max (begin + 2 ^ 32) (max low high) }
     {
-        let said = self
-            .script
-            .said_in(Kind::Clock, n, r)
-            .map(|e| begin.saturating_add(u64::from(e.one)));
-        let chosen = || self.script.seed.map(|seed| chance::between(
-            Choice::Clock.draw(seed, n, r as u64),
-            low,
-            high,
-        ));
-        said.or_else(chosen).unwrap_or(low)
+        match (self.script.said_in(Kind::Clock, n, r), self.script.seed) {
+            (Some(e), _) => begin.saturating_add(u64::from(e.one)),
+            (None, Some(seed)) => {
+                chance::between(Choice::Clock.draw(seed, n, r as u64), low, high)
+            }
+            (None, None) => low,
+        }
     }
 
     // Register `r`, or one of zeros where there is none.

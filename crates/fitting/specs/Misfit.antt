@@ -1,6 +1,5 @@
 -- Statements that do not fit, and the first line on which one stands.
-use Rattle.std.specs.Prelude.{◌≡◌, ℕ, suc, ◌+◌, ◌*◌, ◌<◌, ◌≤◌, min, Bool, ◌&&◌, nat_lt, nat_le, ◌⊎◌, List, length, map, filter, Some, None, Option}
-use Rattle.std.specs.List.{reduce}
+use Rattle.std.specs.Prelude.{◌≡◌, ℕ, suc, ◌+◌, ◌*◌, ◌<◌, ◌≤◌, min, Bool, ◌&&◌, nat_lt, nat_le, ◌⊎◌, List, length, Some, None, Option}
 use Rattle.circuit.specs.Lent.{gate_count, register_count, gate_in, early, late, period}
 use Rattle.script.specs.declared.entry.Entry.{Entry}
 use Rattle.script.specs.declared.script.Script.{Script}
@@ -8,10 +7,6 @@ use Rattle.script.specs.Entries.{entry}
 use Rattle.script.specs.Told.{clock_told, DelayFits, ClockFits}
 use Rattle.circuit.specs.declared.refusal.Refusal.{Refusal}
 use Rattle.circuit.specs.declared.refusal.Refusal.TheVariants.{OutOfBounds}
-
--- the least line of the statements that pass a test
-abbrev pub first_line : (Entry → Bool) → List Entry → Option ℕ
-first_line test es = reduce min (map (λ e. e.line) (filter test es))
 
 -- P holds of the first n statements; or l is the first line of one of which it does not
 abbrev pub FirstMisfit : (Entry → Type 0) → List Entry → ℕ → Option ℕ → Type 0

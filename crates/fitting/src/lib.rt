@@ -1,13 +1,12 @@
 // Whether all that a script tells lies within the bounds of a circuit.
 #![tactic(auto)]
 
-ghost use Rattle.std.specs.Prelude.{◌≡◌, ℕ, ◌+◌, ◌*◌, ◌^◌, ◌<◌, ◌≤◌, Bool, MatchResult};
-ghost use Rattle.std.specs.Iterator.{ActsAsAt};
+ghost use Rattle.std.specs.Prelude.{◌≡◌, ◌+◌, ◌*◌, ◌^◌, ◌<◌, ◌≤◌, ◌&&◌, nat_le, MatchResult};
 ghost use Rattle.circuit.specs.Checked.{of, registers_of};
 ghost use Rattle.circuit.specs.Lent.{period};
 ghost use Rattle.script.specs.Told.{DelayFits, Fits};
 ghost use Rattle.clocks.specs.Benches.{clock_at};
-ghost use Rattle.fitting.specs.Misfit.{first_line, FirstMisfitIn, earlier, ClockWithin, clock_passes, delay_passes, TurnOf, TurnsBelow, Misfit};
+ghost use Rattle.fitting.specs.Misfit.{FirstMisfitIn, earlier, ClockWithin, clock_passes, delay_passes, TurnOf, TurnsBelow, Misfit};
 
 use circuit::{Circuit, Gate, Refusal, Register};
 use clocks::Bench;
@@ -17,55 +16,66 @@ use script::Entry;
 fn earlier(a: Option<usize>, b: Option<usize>) -> Option<usize>
     ensures { result ≡ earlier a b }
 {
-    a.into_iter().chain(b).min()
+    match (a, b) {
+        (None, other) | (other, None) => other,
+        (Some(line), Some(other)) => Some(line.min(other)),
+    }
+}
+
+// Whether a number lies within its bounds.
+fn within(told: u32, least: u32, greatest: u32) -> bool
+    ensures { result ≡ (nat_le least told && nat_le told greatest) }
+{
+    (least..=greatest).contains(&told)
 }
 
 // Whether a told delay is one of a gate, and within its bounds.
 fn delay_fits(circuit: Circuit<'_>, e: &Entry) -> bool
     ensures { result ≡ delay_passes circuit.entry.gates.now e.now }
 {
-    circuit.gates().get(e.who as usize).is_some_and(|numbers| {
-        let gate = Gate::from(*numbers);
-        (gate.least_one..=gate.greatest_one).contains(&e.one)
-            && (gate.least_two..=gate.greatest_two).contains(&e.two)
-    })
+    let Some(numbers) = circuit.gates().get(e.who as usize) else {
+        return false;
+    };
+    let gate = Gate::from(*numbers);
+    within(e.one, gate.least_one, gate.greatest_one)
+        && within(e.two, gate.least_two, gate.greatest_two)
 }
 
 // Whether a told clock is one of a register, and within its bounds.
 fn clock_within(circuit: Circuit<'_>, e: &Entry) -> bool
     ensures { result ≡ clock_passes circuit.entry.registers.now e.now }
 {
-    circuit
-        .registers()
-        .get(e.who as usize)
-        .is_some_and(|numbers| {
-            let register = Register::from(*numbers);
-            (register.early..=register.late).contains(&e.one)
-        })
-}
-
-// The first line of the statements that a test picks.
-fn first_line<F: FnMut(&&Entry) -> bool>(entries: &[Entry], picks: F) -> Option<usize>
-    requires { (state : F) (x : _) → F.pre state x }
-    ensures { (test : Entry → Bool) → ActsAsAt F.FnMut picks (λ x. test x.now) → result ≡ first_line test entries.now }
-{
-    entries.iter().filter(picks).map(|e| e.line).min()
+    let Some(numbers) = circuit.registers().get(e.who as usize) else {
+        return false;
+    };
+    let register = Register::from(*numbers);
+    within(e.one, register.early, register.late)
 }
 
 // The first line on which a delay does not fit.
 fn misfit_delay(bench: Bench<'_>) -> Option<usize>
     ensures { FirstMisfitIn (of bench.entry.circuit (DelayFits bench.entry.script.now)) bench.entry.script.now.delays result }
 {
-    let Bench { circuit, script } = bench;
-    first_line(script.delays.as_slice(), |e| !delay_fits(circuit, e))
+    let mut first = None;
+    for e in bench.script.delays.as_slice() {
+        if !delay_fits(bench.circuit, e) {
+            first = earlier(first, Some(e.line));
+        }
+    }
+    first
 }
 
 // The first line on which a clock is out of its register's bounds.
 fn misfit_clock(bench: Bench<'_>) -> Option<usize>
     ensures { FirstMisfitIn (ClockWithin bench.entry.circuit.registers.now) bench.entry.script.now.clocks result }
 {
-    let Bench { circuit, script } = bench;
-    first_line(script.clocks.as_slice(), |e| !clock_within(circuit, e))
+    let mut first = None;
+    for e in bench.script.clocks.as_slice() {
+        if !clock_within(bench.circuit, e) {
+            first = earlier(first, Some(e.line));
+        }
+    }
+    first
 }
 
 // The clock of register `r` in cycle `to`, from its clock in cycle `from`. A loop, as each clock is found from the one
@@ -111,9 +121,11 @@ fn misfit_turn(bench: Bench<'_>, r: usize) -> Option<usize>
 fn misfit_turns(bench: Bench<'_>) -> Option<usize>
     ensures { FirstMisfitIn (of bench.entry.circuit (TurnsBelow bench.entry.script.now) (registers_of bench.entry.circuit)) bench.entry.script.now.clocks result }
 {
-    (0..bench.circuit.register_count())
-        .filter_map(|r| misfit_turn(bench, r))
-        .min()
+    let mut first = None;
+    for r in 0..bench.circuit.register_count() {
+        first = earlier(first, misfit_turn(bench, r));
+    }
+    first
 }
 
 // Whether all that a script tells lies within the bounds of a circuit, and told clocks come one after another; else the

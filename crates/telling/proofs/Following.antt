@@ -1,11 +1,8 @@
 -- What registers are told, one after another.
-use Rattle.std.proofs.Common.{◌≡◌, ℕ, ◌+◌, ◌<◌, ◌≢◌, List, length, get_or, set, map, sym, refl, ◌∙◌, inl, inr, arith}
-use Rattle.std.specs.List.{range_with_len}
-use Rattle.std.proofs.lemmas.List.{get_or-set_same, get_or-set_other, length-set}
-use Rattle.std.proofs.lemmas.List.FromFn.{length-map-range_with_len, get_or-map-range_with_len}
+use Rattle.std.proofs.Common.{◌≡◌, ℕ, ◌+◌, ◌-◌, ◌<◌, ◌≢◌, List, [], ◌∷◌, ◌++◌, length, get_or, set, sym, refl, ◌∙◌, inl, inr, arith, below_more, length-append}
+use Rattle.std.proofs.lemmas.List.{get_or-set_same, get_or-set_other, get_or_append_left, get_or-append_right, length-set}
 use Rattle.std.proofs.lemmas.Bool.{cases_eq}
 use Rattle.script.specs.declared.script.Script.{Script}
-use Rattle.script.specs.Told.{clock_told, take_told}
 use Rattle.step.specs.Lent.{no_clocks, clocks_at}
 use Rattle.step.specs.declared.told.Clocks.{Clocks}
 use Rattle.telling.specs.Said.{ClocksTold, ClocksGoOn, Followed, FirstTold}
@@ -56,17 +53,16 @@ module _ (s : Script) (g r ts cycles : List ℕ) where
 
 -- what registers are told in their first cycle
 module _ (s : Script) (g r ts : List ℕ) where
-  abbrev pub clocks_first : ℕ → Clocks
-  clocks_first q = record { cycle = 0; clock = clock_told s g r ts 0 q; next = clock_told s g r ts 1 q; after = clock_told s g r ts 2 q; take = take_told s g r ts 1 q }
+  pub none_first : FirstTold s g r ts 0 []
+  none_first = record { size = refl; told = λ q l. absurd (omega arith) }
 
-  pub is_first : (q : ℕ) (now : Clocks) → ClocksTold s g r ts q 0 now → now ≡ clocks_first q
-  is_first q now told = λ i. record { cycle = told.cycle i; clock = told.clock i; next = told.next i; after = told.after i; take = told.take i }
-
-  all_first : (n : ℕ) → FirstTold s g r ts n (map clocks_first (range_with_len 0 n))
-  all_first n = record {
-    size = length-map-range_with_len clocks_first 0 n;
-    told = λ q h. rw (get_or-map-range_with_len clocks_first 0 n q q no_clocks h (omega arith)) (record { cycle = refl; clock = refl; next = refl; after = refl; take = refl });
-  }
-
-  pub begun : (n : ℕ) (clocks : List Clocks) → clocks ≡ map clocks_first (range_with_len 0 n) → FirstTold s g r ts n clocks
-  begun n clocks e = rw e (all_first n)
+  -- one register more
+  pub first_more : (n : ℕ) (clocks : List Clocks) (now : Clocks) → ClocksTold s g r ts n 0 now → FirstTold s g r ts n clocks → FirstTold s g r ts (n + 1) (clocks ++ now ∷ [])
+  first_more n clocks now told so_far =
+      let none : n - n ≡ 0 = omega arith in
+      let last : clocks_at (clocks ++ now ∷ []) n ≡ now = get_or-append_right clocks (now ∷ []) n n no_clocks so_far.size (omega arith) ∙ rw none refl in
+      record {
+        size = length-append clocks (now ∷ []) ∙ omega (arith, so_far.size);
+        told = below_more (λ q. ClocksTold s g r ts q 0 (clocks_at (clocks ++ now ∷ []) q)) n
+            (λ q h. rw (get_or_append_left clocks (now ∷ []) no_clocks q (omega (arith, so_far.size))) (so_far.told q h)) (rw last told);
+      }

@@ -1,14 +1,13 @@
 -- Statements kept one by one, for the gate or register that they are about.
-use Rattle.std.proofs.Common.{◌≡◌, ℕ, ◌+◌, ◌-◌, ◌<◌, ◌≤◌, min, ◌≢◌, List, length, set, take, drop, vec_items, Some, None, Option, sym, refl, ◌∙◌, inl, inr, arith}
-use Rattle.std.proofs.lemmas.List.{get_or-set_same, get_or-set_other, get_or-take, get_or-drop, length-set, length-take-le, length-drop}
-use Rattle.std.specs.List.{HoldsAt}
+use Rattle.std.proofs.Common.{◌≡◌, ℕ, ◌+◌, ◌<◌, ◌≤◌, ◌≢◌, List, length, get_or, set, vec_items, Some, None, Option, sym, refl, ◌∙◌, inl, inr, arith}
+use Rattle.std.proofs.lemmas.List.{get_or-set_same, get_or-set_other, length-set}
 use Rattle.std.proofs.lemmas.Bool.{cases_eq, cases_lt, eq-eqb, ne_eqb}
 use Rattle.script.specs.declared.entry.Entry.{Entry}
-use Rattle.script.specs.Entries.{no_entry, entry, about}
+use Rattle.script.specs.Entries.{no_entry, entry, about, Ordered}
 use Rattle.script.proofs.Last.{last_hit, last_miss}
 use Rattle.telling.specs.declared.part.Part.{Part}
 use Rattle.telling.specs.Parts.{PartOn}
-use Rattle.telling.specs.Said.{DoneBefore, Said, KeptOn}
+use Rattle.telling.specs.Said.{Said, KeptOn}
 
 module _ (es : List Entry) (i n : ℕ) (said : List (Option Entry)) (size : length said ≡ n) (so_far : Said es i n said) where
   said_one : (entry es i).who < length said → Said es (i + 1) n (set said (entry es i).who (Some (entry es i)))
@@ -21,53 +20,50 @@ module _ (es : List Entry) (i n : ℕ) (said : List (Option Entry)) (size : leng
   said_none : length said ≤ (entry es i).who → Said es (i + 1) n said
   said_none h k l = so_far k l ∙ sym (last_miss (about k) es i (ne_eqb _ _ (λ e. omega arith)))
 
--- the statements up to moment t are the first `due`, and all of them are kept if the first `done` were
-pub kept_on : (es : List Entry) (t done due : ℕ) (before after : List (Option Entry)) → due ≤ length es → ((i : ℕ) → i < due → (entry es i).when ≤ t) → ((i : ℕ) → due ≤ i → i < length es → t < (entry es i).when) →
-    (Said es (min done due) (length before) before → Said es due (length before) after) → KeptOn es t done before due after
-kept_on es t done due before after within upto rest kept = record {
-  done_now = λ d. record { within = within; done = λ j l. omega (arith, upto j l); to_come = λ j l h. omega (arith, rest j l h) };
-  said_now = λ d said. let e : min done due ≡ done = omega (arith, below d) in kept (rw e said);
-}
-  where
-    below : DoneBefore es t done → done ≤ due
-    below d = elim (cases_lt due done) [
-      | inl less ↦ absurd (omega (arith, rest due (omega arith) (omega (arith, d.within)), d.done due less))
-      | inr more ↦ more
-    ]
-
--- the statements from `start` on are kept one by one
-pub record SoFar (es : List Entry) (start i : ℕ) (before after : List (Option Entry)) : Type 0 where
+-- the statements from `start` to i are those up to moment t, and are kept one by one
+pub record SoFar (es : List Entry) (t start i : ℕ) (before after : List (Option Entry)) : Type 0 where
   pub size : length after ≡ length before
-  pub kept : Said es start (length before) before → Said es (start + i) (length before) after
+  pub from : start ≤ i
+  pub within : start ≤ length es → i ≤ length es
+  pub upto : (j : ℕ) → start ≤ j → j < i → (entry es j).when ≤ t
+  pub kept : Said es start (length before) before → Said es i (length before) after
 
-pub none_kept : (es : List Entry) (start : ℕ) (said : List (Option Entry)) → SoFar es start 0 said said
-none_kept es start said = record { size = refl; kept = λ s. let e : start + 0 ≡ start = omega arith in rw e s }
+pub none_kept : (es : List Entry) (t start : ℕ) (said : List (Option Entry)) → SoFar es t start start said said
+none_kept es t start said = record { size = refl; from = omega arith; within = λ l. l; upto = λ j l h. absurd (omega arith); kept = λ s. s }
 
-module _ {es : List Entry} {start i : ℕ} {before after : List (Option Entry)} (so_far : SoFar es start i before after) {e : Entry} (is : e ≡ entry es (start + i)) where
-  pub kept_more : e.who < length after → SoFar es start (i + 1) before (set after e.who (Some e))
-  kept_more place = record {
-    size = length-set after e.who (Some e) ∙ so_far.size;
-    kept = λ s. let next : start + (i + 1) ≡ start + i + 1 = omega arith in rw (next, is) (said_one es (start + i) _ after so_far.size (so_far.kept s) (rw is at place));
+module _ {es : List Entry} {t start i : ℕ} {before after : List (Option Entry)} (so_far : SoFar es t start i before after) where
+  module _ (inside : i < length es) (due : (entry es i).when ≤ t) where
+    upto_more : (j : ℕ) → start ≤ j → j < i + 1 → (entry es j).when ≤ t
+    upto_more j l h = elim (cases_eq j i) [ inl e ↦ rw e due | inr ne ↦ so_far.upto j l (omega (arith, ne)) ]
+
+    pub kept_more : (entry es i).who < length after → SoFar es t start (i + 1) before (set after (entry es i).who (Some (entry es i)))
+    kept_more place = record {
+      size = length-set after (entry es i).who (Some (entry es i)) ∙ so_far.size;
+      from = omega (arith, so_far.from);
+      within = λ l. omega arith;
+      upto = upto_more;
+      kept = λ s. said_one es i _ after so_far.size (so_far.kept s) place;
+    }
+
+    pub kept_same : length after ≤ (entry es i).who → SoFar es t start (i + 1) before after
+    kept_same past = record { size = so_far.size; from = omega (arith, so_far.from); within = λ l. omega arith; upto = upto_more; kept = λ s. said_none es i _ after so_far.size (so_far.kept s) past }
+
+  -- all of them are kept
+  pub kept_on : Ordered es → (i < length es → t < (entry es i).when) → KeptOn es t start before i after
+  kept_on order past = record {
+    done_now = λ d. record {
+      within = so_far.within d.within;
+      done = λ j l. elim (cases_lt j start) [ inl before ↦ omega (arith, d.done j before) | inr from ↦ omega (arith, so_far.upto j from l) ];
+      to_come = λ j l h. omega (arith, past (omega arith), order i j no_entry l h);
+    };
+    said_now = λ d. so_far.kept;
   }
-
-  pub kept_same : length after ≤ e.who → SoFar es start (i + 1) before after
-  kept_same past = record {
-    size = so_far.size;
-    kept = λ s. let next : start + (i + 1) ≡ start + i + 1 = omega arith in rw next (said_none es (start + i) _ after so_far.size (so_far.kept s) (rw is at past));
-  }
-
--- a part of the statements
-pub item_at : (es : List Entry) (a b i : ℕ) → i < b - a → entry (take (b - a) (drop a es)) i ≡ entry es (a + i)
-item_at es a b i h = get_or-take (b - a) (drop a es) i no_entry h ∙ get_or-drop a es i no_entry
-
-pub part_length : (es : List Entry) (a b : ℕ) → b ≤ length es → length (take (b - a) (drop a es)) ≡ b - a
-part_length es a b l = length-take-le (b - a) (drop a es) (omega (arith, length-drop a es))
 
 -- what holds of each value so far, and of one more
-pub held_more : {V : Type 0} (P : ℕ → V → Type 0) (xs : List V) (i : ℕ) (v : V) → i < length xs → P i v → ((k : ℕ) → k < i → HoldsAt (P k) xs k) → (k : ℕ) → k < i + 1 → HoldsAt (P k) (set xs i v) k
-held_more P xs i v room now before k l d = elim (cases_eq k i) [
+pub held_more : {V : Type 0} (d : V) (P : ℕ → V → Type 0) (xs : List V) (i : ℕ) (v : V) → i < length xs → P i v → ((k : ℕ) → k < i → P k (get_or xs k d)) → (k : ℕ) → k < i + 1 → P k (get_or (set xs i v) k d)
+held_more d P xs i v room now before k l = elim (cases_eq k i) [
   | inl e ↦ rw (e, get_or-set_same xs i v d room) now
-  | inr other ↦ let ne : k ≢ i = other in rw (get_or-set_other xs i k v d ne) (before k (omega arith) d)
+  | inr other ↦ let ne : k ≢ i = other in rw (get_or-set_other xs i k v d ne) (before k (omega arith))
 ]
 
 -- a part that keeps what is said up to moment t

@@ -1,20 +1,19 @@
 -- What the parts of a teller tell is what the script tells.
-use Rattle.std.proofs.Common.{◌≡◌, ℕ, suc, ◌<◌, ◌≤◌, Bool, false, List, length, get_or, None, vec_items, Option, sym, ap, ◌∙◌, arith}
+use Rattle.std.proofs.Common.{◌≡◌, ℕ, suc, ◌<◌, ◌≤◌, false, List, length, get_or, None, vec_items, Option, sym, ap, ◌∙◌, arith}
 use Rattle.std.proofs.lemmas.Bool.{le-leb, lt-leb, and_left}
 use Rattle.circuit.specs.Lent.{gate_count, register_count, gate_in}
 use Rattle.circuit.proofs.LentLaws.{gates_in_length}
 use Rattle.promise.specs.Machine.{machine_in}
-use Rattle.step.specs.Lent.{TellsGates, TellsRegister, clocks_at, delays_at}
+use Rattle.step.specs.Lent.{TellsGates, TellsRegister, clocks_at}
 use Rattle.script.specs.declared.entry.Entry.{Entry}
 use Rattle.script.specs.declared.script.Script.{Script}
 use Rattle.script.specs.Entries.{entry, last_of, about, due, said_by}
 use Rattle.script.specs.Told.{told_by}
 use Rattle.script.proofs.Last.{last_rest, last_same}
-use Rattle.step.specs.declared.told.Delays.{Delays}
 use Rattle.telling.specs.declared.part.Part.{Part}
 use Rattle.telling.specs.declared.teller.Teller.{Teller}
 use Rattle.telling.specs.Said.{DoneBefore, Said, one_of, two_of, show_of, ClocksTold, Followed}
-use Rattle.telling.specs.Parts.{PartKnows, PartOn, ComesTo, places}
+use Rattle.telling.specs.Parts.{PartKnows, PartOn, DelaysTold, ShowsTold, ComesTo, places}
 use Rattle.telling.specs.Knows.{Knows, ToldOn}
 
 -- of the statements up to moment t the last about a gate or register is the last that is due
@@ -31,16 +30,8 @@ kept_due : {V : Type 0} (es : List Entry) (t k : ℕ) (y : Part V) → PartKnows
 kept_due es t k y knows h = kept_last es t y.done _ k (vec_items y.said) knows.done_all knows.said_all (omega arith)
 
 module _ (s : Script) (g r ts : List ℕ) (t : ℕ) where
-  -- the delays of all gates are told by what is kept, and what all registers show
-  pub record DelaysTold (y : Part Delays) : Type 0 where
-    pub one : (k : ℕ) → k < gate_count g → (delays_at (vec_items y.values) k).one ≡ one_of s.seed (gate_in g k) k t (get_or (vec_items y.said) k None)
-    pub two : (k : ℕ) → k < gate_count g → (delays_at (vec_items y.values) k).two ≡ two_of s.seed (gate_in g k) k t (get_or (vec_items y.said) k None)
-
-  abbrev pub ShowsTold : Part Bool → Type 0
-  ShowsTold y = (q : ℕ) → q < register_count r → get_or (vec_items y.values) q false ≡ show_of s.seed q t (get_or (vec_items y.said) q None)
-
   -- the parts together
-  module _ (cycles : List ℕ) (y y' : Teller) (d : PartOn s.delays t y.delays y'.delays) (dt : DelaysTold y'.delays) (x : PartOn s.shows t y.shows y'.shows) (xt : ShowsTold y'.shows)
+  module _ (cycles : List ℕ) (y y' : Teller) (d : PartOn s.delays t y.delays y'.delays) (dt : DelaysTold s g t y'.delays) (x : PartOn s.shows t y.shows y'.shows) (xt : ShowsTold s r t y'.shows)
       (c : Followed s g r ts cycles (register_count r) (vec_items y.clocks) (vec_items y'.clocks)) where
     gates_told : Knows s g r ts t y → TellsGates (machine_in g r ts) (told_by s g r ts) t (vec_items y'.delays.values)
     unfolding told_by

@@ -1,14 +1,15 @@
 -- What each part of a teller knows and tells.
-use Rattle.std.specs.Prelude.{◌≡◌, ℕ, suc, ◌<◌, min, ◌⊎◌, List, length, vec_items, slice_index}
+use Rattle.std.specs.Prelude.{◌≡◌, ℕ, suc, ◌<◌, min, Bool, ◌⊎◌, List, length, vec_items, slice_index}
 use Rattle.clocks.specs.Benches.{SmallClock}
-use Rattle.circuit.specs.Lent.{register_count}
+use Rattle.circuit.specs.Lent.{gate_count, register_count}
 use Rattle.script.specs.declared.entry.Entry.{Entry}
 use Rattle.script.specs.declared.script.Script.{Script}
 use Rattle.script.specs.Told.{clock_told}
 use Rattle.step.specs.Lent.{clocks_at}
 use Rattle.step.specs.declared.told.Clocks.{Clocks}
+use Rattle.step.specs.declared.told.Delays.{Delays}
 use Rattle.telling.specs.declared.part.Part.{Part}
-use Rattle.telling.specs.Said.{DoneBefore, Said, ClocksTold}
+use Rattle.telling.specs.Said.{DoneBefore, Said, DelaysSaid, ShowsSaid, ClocksTold}
 
 -- how many gates or registers have a place
 abbrev pub places : {V : Type 0} → Part V → ℕ
@@ -28,6 +29,13 @@ pub record PartOn {V : Type 0} (es : List Entry) (t : ℕ) (y y' : Part V) : Typ
 pub record PartNew {V : Type 0} (n : ℕ) (y : Part V) : Type 0 where
   pub places_all : places y ≡ n
   pub knows : (es : List Entry) → PartKnows es 0 y
+
+-- the delays of all gates are told by what is kept, and what all registers show
+abbrev pub DelaysTold : (s : Script) (g : List ℕ) (t : ℕ) → Part Delays → Type 0
+DelaysTold s g t y = DelaysSaid s g t (gate_count g) (vec_items y.said) (vec_items y.values)
+
+abbrev pub ShowsTold : (s : Script) (r : List ℕ) (t : ℕ) → Part Bool → Type 0
+ShowsTold s r t y = ShowsSaid s t (register_count r) (vec_items y.said) (vec_items y.values)
 
 -- each register is told what goes for the cycle in which it stood
 abbrev pub ClocksKnow : (s : Script) (g r ts : List ℕ) → List Clocks → Type 0

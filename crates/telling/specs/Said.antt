@@ -1,6 +1,7 @@
 -- What is told up to a moment, as it is kept.
 use Rattle.std.specs.Prelude.{◌≡◌, ℕ, suc, ◌/◌, ◌^◌, ◌<◌, ◌≤◌, Bool, false, ◌⊎◌, List, length, None, Option, slice_index, slice_index_or}
 use Rattle.std.specs.Option.{option_map_or}
+use Rattle.circuit.specs.Lent.{gate_in}
 use Rattle.circuit.specs.declared.gate.Gate.{Gate}
 use Rattle.clocks.specs.Benches.{SmallClock}
 use Rattle.script.specs.declared.entry.Entry.{Entry}
@@ -10,8 +11,9 @@ use Rattle.script.specs.Chance.{between, odd}
 use Rattle.script.specs.Choices.{drawn_for}
 use Rattle.script.specs.Entries.{entry, bit_said, last_of, about}
 use Rattle.script.specs.Told.{clock_told, take_told}
-use Rattle.step.specs.Lent.{clocks_at}
+use Rattle.step.specs.Lent.{clocks_at, delays_at}
 use Rattle.step.specs.declared.told.Clocks.{Clocks}
+use Rattle.step.specs.declared.told.Delays.{Delays}
 
 -- the first i statements are those of the moments before t
 pub record DoneBefore (es : List Entry) (t i : ℕ) : Type 0 where
@@ -45,6 +47,15 @@ two_of seed g k t said = option_map_or (λ e. e.two) said (option_map_or (λ n. 
 -- what a register shows by what is said of it, at moment t
 abbrev pub show_of : Option ℕ → (q t : ℕ) → Option Entry → Bool
 show_of seed q t said = option_map_or bit_said said (option_map_or (λ n. odd (drawn_for n Show q t)) seed false)
+
+-- the first n gates have the delays that go by what is said of each
+pub record DelaysSaid (s : Script) (g : List ℕ) (t n : ℕ) (said : List (Option Entry)) (delays : List Delays) : Type 0 where
+  pub one : (k : ℕ) → k < n → (delays_at delays k).one ≡ one_of s.seed (gate_in g k) k t (slice_index_or said k None)
+  pub two : (k : ℕ) → k < n → (delays_at delays k).two ≡ two_of s.seed (gate_in g k) k t (slice_index_or said k None)
+
+-- the first n registers show what goes by what is said of each
+abbrev pub ShowsSaid : (s : Script) (t n : ℕ) (said : List (Option Entry)) (shows : List Bool) → Type 0
+ShowsSaid s t n said shows = (q : ℕ) → q < n → slice_index_or shows q false ≡ show_of s.seed q t (slice_index_or said q None)
 
 -- register q's clocks of cycle n and the next two, and what it takes in the next
 pub record ClocksTold (s : Script) (g r ts : List ℕ) (q n : ℕ) (told : Clocks) : Type 0 where

@@ -39,9 +39,12 @@ fn go_on(bench: Bench<'_>, r: usize, n: u64, told: Clocks) -> Clocks
 pub(crate) fn begin(heap: Global, bench: Bench<'_>) -> Result<Vec<Clocks>, AllocError>
     ensures { IfOk result (λ v. of bench.entry.circuit (FirstTold bench.entry.script.now) (registers_of bench.entry.circuit) v.items) }
 {
-    (0..bench.circuit.register_count())
-        .map(|r| first(bench, r))
-        .collect(heap)
+    let n = bench.circuit.register_count();
+    let mut clocks = Vec::with_capacity(heap, n)?;
+    for r in 0..n {
+        clocks.push(first(bench, r))?;
+    }
+    Ok(clocks)
 }
 
 // What registers are told in the cycles that they have come to, which are those of which they were told or the next.
@@ -50,10 +53,9 @@ pub(crate) fn follow(bench: Bench<'_>, cycles: &[u64], clocks: &mut [Clocks])
     requires clocks { registers_of bench.circuit ≤ length clocks.old }
     ensures { of bench.entry.circuit (Followed bench.entry.script.now) cycles.now (registers_of bench.entry.circuit) clocks.old clocks.new }
 {
-    let n = bench.circuit.register_count();
-    for (r, cycle) in cycles[..n].iter().enumerate() {
-        if clocks[r].cycle != *cycle {
-            clocks[r] = go_on(bench, r, *cycle, clocks[r]);
+    for r in 0..bench.circuit.register_count() {
+        if clocks[r].cycle != cycles[r] {
+            clocks[r] = go_on(bench, r, cycles[r], clocks[r]);
         }
     }
 }

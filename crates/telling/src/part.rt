@@ -1,12 +1,15 @@
 // What is told of gates or registers, from moment to moment.
-ghost use Rattle.std.specs.Prelude.{◌≡◌, ℕ, ◌<◌, ◌≤◌, length, IfOk, None, slice_index_or};
-ghost use Rattle.std.specs.List.{HoldsAt};
+ghost use Rattle.std.specs.Prelude.{◌≡◌, ◌≤◌, None, replicate, IfOk};
+ghost use Rattle.circuit.specs.Checked.{gates_of, registers_of};
 ghost use Rattle.script.specs.Entries.{Ordered};
-ghost use Rattle.telling.specs.Parts.{places, PartNew, PartOn};
+ghost use Rattle.telling.specs.Parts.{places, PartNew, PartOn, DelaysTold, ShowsTold};
 ghost use Rattle.telling.specs.Said.{KeptOn};
 
+use crate::said::{fill_delays, fill_shows};
+use clocks::Bench;
 use script::Entry;
 use std::alloc::{AllocError, Global};
+use step::Delays;
 
 // What is told now of each gate or register, the last statement about each so far, and how many statements that takes in.
 // The values stand in a list of their own, since they alone are lent, as one slice.
@@ -17,14 +20,23 @@ pub struct Part<V> {
     pub(crate) done: usize,
 }
 
+// Nothing said of `n` gates or registers.
+fn none_said(heap: Global, n: usize) -> Result<Vec<Option<Entry>>, AllocError>
+    ensures { IfOk result (λ v. v.items ≡ replicate n None) }
+{
+    vec![in heap; None; n]
+}
+
 impl<V: Copy> Part<V> {
     // Places for `n` gates or registers, of which nothing is said yet.
     pub(crate) fn new(heap: Global, n: usize, value: V) -> Result<Part<V>, AllocError>
         ensures { IfOk result (λ y. PartNew n y) }
     {
+        let values = vec![in heap; value; n]?;
+        let said = none_said(heap, n)?;
         Ok(Part {
-            values: vec![in heap; value; n]?,
-            said: vec![in heap; None; n]?,
+            values,
+            said,
             done: 0,
         })
     }
@@ -35,23 +47,29 @@ impl<V: Copy> Part<V> {
     {
         self.values.len().min(self.said.len())
     }
+}
 
-    // What is told of some gates or registers at moment `t`: the value of each by the last statement about it.
-    pub(crate) fn tell<T: Copy, F: Fn(usize, T, Option<Entry>) -> V>(
-        &mut self,
-        items: &[T],
-        entries: &[Entry],
-        t: u64,
-        value: F,
-    )
-        requires callable { F.IsAlwaysCallable value }
-        requires ordered { Ordered entries.now }
-        requires places { length items.now ≤ places self.old }
-        ensures on { PartOn entries.now t self.old self.new }
-        ensures told { (k : ℕ) → k < length items.now → HoldsAt (λ v. HoldsAt (λ x. F.post value k x (slice_index_or self.new.said.items k None) v) items.now k) self.new.values.items k }
+impl Part<Delays> {
+    // The delays of all gates at moment `t`, by the last statement about each.
+    pub(crate) fn tell_delays(&mut self, bench: Bench<'_>, t: u64)
+        requires { gates_of bench.circuit ≤ places self.old }
+        ensures on { PartOn bench.entry.script.now.delays t self.old self.new }
+        ensures told { DelaysTold bench.entry.script.now bench.entry.circuit.gates.now t self.new }
     {
-        self.done = keep_said(entries, t, self.done, &mut self.said);
-        fill(items, &self.said, &mut self.values, value);
+        self.done = keep_said(bench.script.delays.as_slice(), t, self.done, &mut self.said);
+        fill_delays(bench, t, &self.said, &mut self.values);
+    }
+}
+
+impl Part<bool> {
+    // What all registers show at moment `t` where they may show anything, by the last statement about each.
+    pub(crate) fn tell_shows(&mut self, bench: Bench<'_>, t: u64)
+        requires { registers_of bench.circuit ≤ places self.old }
+        ensures on { PartOn bench.entry.script.now.shows t self.old self.new }
+        ensures told { ShowsTold bench.entry.script.now bench.entry.circuit.registers.now t self.new }
+    {
+        self.done = keep_said(bench.script.shows.as_slice(), t, self.done, &mut self.said);
+        fill_shows(bench, t, &self.said, &mut self.values);
     }
 }
 
@@ -61,29 +79,13 @@ fn keep_said(entries: &[Entry], t: u64, done: usize, said: &mut [Option<Entry>])
     requires { Ordered entries.now }
     ensures { KeptOn entries.now t done said.old result said.new }
 {
-    let due = entries.partition_point(|e| u64::from(e.when) <= t);
-    for e in &entries[done.min(due)..due] {
-        let who = e.who as usize;
+    let mut due = done;
+    while due < entries.len() && u64::from(entries[due].when) <= t {
+        let who = entries[due].who as usize;
         if who < said.len() {
-            said[who] = Some(*e);
+            said[who] = Some(entries[due]);
         }
+        due += 1;
     }
     due
-}
-
-// The value of each gate or register by the last statement about it.
-fn fill<T: Copy, V: Copy, F: Fn(usize, T, Option<Entry>) -> V>(
-    items: &[T],
-    said: &[Option<Entry>],
-    values: &mut [V],
-    value: F,
-)
-    requires callable { F.IsAlwaysCallable value }
-    requires said { length items.now ≤ length said.now }
-    requires room { length items.now ≤ length values.old }
-    ensures { (k : ℕ) → k < length items.now → HoldsAt (λ v. HoldsAt (λ x. F.post value k x (slice_index_or said.now k None) v) items.now k) values.new k }
-{
-    for (k, item) in items.iter().enumerate() {
-        values[k] = value(k, *item, said[k]);
-    }
 }

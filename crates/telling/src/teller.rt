@@ -1,16 +1,12 @@
 // Who tells what, moment by moment.
 ghost use Rattle.std.specs.Prelude.{◌≡◌, IfOk, MatchResult};
 ghost use Rattle.circuit.specs.Checked.{of};
-ghost use Rattle.circuit.specs.Lent.{gate_of};
-ghost use Rattle.telling.specs.Said.{one_of, two_of, show_of};
 ghost use Rattle.telling.specs.Knows.{Begins, Suits, Lacks, TellAnswer};
 
 use crate::clocks_told::{begin, follow};
 use crate::part::Part;
-use crate::said::{delays_of, show_of};
 use circuit::{Circuit, Refusal};
 use clocks::Bench;
-use script::Entry;
 use std::alloc::{AllocError, Global};
 use step::{Clocks, Delays};
 
@@ -29,10 +25,13 @@ impl Teller {
         ensures { IfOk result (λ y. of bench.entry.circuit (Begins bench.entry.script.now) y) }
     {
         let none = Delays { one: 0, two: 0 };
+        let clocks = begin(heap, bench)?;
+        let delays = Part::new(heap, bench.circuit.gate_count(), none)?;
+        let shows = Part::new(heap, bench.circuit.register_count(), false)?;
         Ok(Teller {
-            delays: Part::new(heap, bench.circuit.gate_count(), none)?,
-            shows: Part::new(heap, bench.circuit.register_count(), false)?,
-            clocks: begin(heap, bench)?,
+            delays,
+            shows,
+            clocks,
         })
     }
 
@@ -57,27 +56,8 @@ impl Teller {
         ensures { TellAnswer bench.entry t cycles.now self.old self.new result }
     {
         self.suits(bench.circuit, cycles)?;
-        let Bench { circuit, script } = bench;
-        let seed = script.seed;
-        let delays = script.delays.as_slice();
-        self.delays.tell(
-            circuit.gates(),
-            delays,
-            t,
-            |k: usize, gate: [u32; 7], said: Option<Entry>|
-                ensures one { result.one ≡ one_of seed (gate_of gate) k t said }
-                ensures two { result.two ≡ two_of seed (gate_of gate) k t said }
-            { delays_of(gate, seed, k, t, said) },
-        );
-        let shows = script.shows.as_slice();
-        self.shows.tell(
-            circuit.registers(),
-            shows,
-            t,
-            |r: usize, _register: [u32; 3], said: Option<Entry>|
-                ensures { result ≡ show_of seed r t said }
-            { show_of(seed, r, t, said) },
-        );
+        self.delays.tell_delays(bench, t);
+        self.shows.tell_shows(bench, t);
         follow(bench, cycles, &mut self.clocks);
         Ok(())
     }

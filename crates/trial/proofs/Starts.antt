@@ -1,9 +1,10 @@
 -- A room before the first moment.
-use Rattle.std.proofs.Common.{◌≡◌, ℕ, zero, suc, ◌+◌, ◌-◌, ◌/◌, ◌<◌, ◌≤◌, max, Bool, List, [], ◌∷◌, length, map, unwrap_or, get_or, IfOk, IsErrAnd, MatchResult, Ok, Err, Result, sym, refl, ap, ◌∙◌, inl, inr, arith}
-use Rattle.std.specs.List.{fold, reduce}
+use Rattle.std.proofs.Common.{◌≡◌, ℕ, ◌+◌, ◌-◌, ◌/◌, ◌<◌, ◌≤◌, min, max, Bool, List, IfOk, IsErrAnd, MatchResult, Ok, Err, Result, sym, refl, ap, ◌∙◌, inl, inr, arith, below_more}
 use Rattle.std.proofs.lemmas.Nat.{le-div, div-add-mod'}
 use Rattle.std.proofs.lemmas.Bool.{cases_eq}
-use Rattle.circuit.specs.Lent.{gate_count, register_count, gate_in, early, period, setup, output_late}
+use Rattle.circuit.specs.Lent.{gate_count, register_count, gate_in, register_in, early, late, period, setup, output_late}
+use Rattle.circuit.specs.declared.gate.Gate.{Gate}
+use Rattle.circuit.specs.declared.register.Register.{Register}
 use Rattle.circuit.proofs.LentLaws.{gates_in_length, gates_in_at}
 use Rattle.promise.specs.Machine.{machine_in}
 use Rattle.history.specs.declared.history.History.{History}
@@ -20,7 +21,7 @@ use Rattle.trial.specs.declared.stop.Stop.{Stop}
 use Rattle.trial.specs.declared.stop.Stop.TheVariants.{Memory}
 use Rattle.trial.specs.Stopped.{Stopped}
 use Rattle.trial.specs.declared.room.Room.{Room}
-use Rattle.trial.specs.Standing.{ReadyToGo, Started, BitsReady, Furnished, Standing}
+use Rattle.trial.specs.Standing.{ReadyToGo, DelaysWithin, ClocksWithin, Started, BitsReady, Furnished, Standing}
 
 less_apart : (a b k : ℕ) → 0 < k → a ≤ b → a / k ≤ b / k
 less_apart a b k pos l = le-div (a / k) b k pos (omega (arith, div-add-mod' a k))
@@ -30,45 +31,28 @@ pub made_so : {X Y : Type 0} (r : Result X Y) (P Q : X → Type 0) → ((x : X) 
 made_so (Ok x) P Q so p = so x p
 made_so (Err y) P Q so p = tt
 
--- no size is above the greatest, and that is above no bound of them all
-module _ {T : Type 0} (size : T → ℕ) where
-  abbrev pub greatest_of : List T → ℕ
-  greatest_of xs = unwrap_or (reduce max (map size xs)) 0
+-- one gate more
+pub delays_more : (g : List ℕ) (n before after : ℕ) (gate : Gate) → gate ≡ gate_in g n → before ≤ after → gate.greatest_one ≤ after → gate.greatest_two ≤ after → DelaysWithin g n before → DelaysWithin g (n + 1) after
+delays_more g n before after gate is more one two so_far =
+    let first : gate.greatest_one ≡ (gate_in g n).greatest_one = ap (λ (x : Gate). x.greatest_one) is in
+    let second : gate.greatest_two ≡ (gate_in g n).greatest_two = ap (λ (x : Gate). x.greatest_two) is in
+    below_more (λ k. ((gate_in g k).greatest_one ≤ after) × ((gate_in g k).greatest_two ≤ after)) n (λ k h. (omega (arith, so_far k h), omega (arith, so_far k h))) (omega arith, omega arith)
 
-  above : (a : ℕ) (xs : List T) → a ≤ fold max a (map size xs)
-  above a [] = omega arith
-  above a (x ∷ xs) = omega (arith, above (max a (size x)) xs)
-
-  each_below : (a : ℕ) (xs : List T) (k : ℕ) (d : T) → k < length xs → size (get_or xs k d) ≤ fold max a (map size xs)
-  each_below a [] k d h = absurd (omega arith)
-  each_below a (x ∷ xs) zero d h = omega (arith, above (max a (size x)) xs)
-  each_below a (x ∷ xs) (suc k) d h = each_below (max a (size x)) xs k d (omega arith)
-
-  at_most_greatest : (xs : List T) (k : ℕ) (d : T) → k < length xs → size (get_or xs k d) ≤ greatest_of xs
-  at_most_greatest [] k d h = absurd (omega arith)
-  at_most_greatest (x ∷ xs) zero d h = above (size x) xs
-  at_most_greatest (x ∷ xs) (suc k) d h = each_below (size x) xs k d (omega arith)
-
-  all_within : (b a : ℕ) (xs : List T) (d : T) → a ≤ b → ((k : ℕ) → k < length xs → size (get_or xs k d) ≤ b) → fold max a (map size xs) ≤ b
-  all_within b a [] d l all = l
-  all_within b a (x ∷ xs) d l all = all_within b (max a (size x)) xs d (omega (arith, all 0 (omega arith))) (λ k h. all (suc k) (omega arith))
-
-  greatest_within : (b : ℕ) (xs : List T) (d : T) → ((k : ℕ) → k < length xs → size (get_or xs k d) ≤ b) → greatest_of xs ≤ b
-  greatest_within b [] d all = omega arith
-  greatest_within b (x ∷ xs) d all = all_within b (size x) xs d (all 0 (omega arith)) (λ k h. all (suc k) (omega arith))
-
--- the same of rows of numbers by what they stand for
-module _ {R : Type 0} (size : R → ℕ) (as_row : List ℕ → R) (row : ℕ → R) (rows : List (List ℕ)) {n most : ℕ} (count : length rows ≡ n) (each : (k : ℕ) → k < n → as_row (get_or rows k []) ≡ row k)
-    (is : most ≡ greatest_of (λ x. size (as_row x)) rows) where
-  pub most_of_rows : (k : ℕ) → k < n → size (row k) ≤ most
-  most_of_rows k h = rw is (rw (each k h) at (at_most_greatest (λ x. size (as_row x)) rows k [] (omega arith)))
-
-  pub rows_within : (b : ℕ) → ((k : ℕ) → k < n → size (row k) ≤ b) → most ≤ b
-  rows_within b all = rw is (greatest_within (λ x. size (as_row x)) b rows [] (λ k h. let l : k < n = omega arith in rw (each k l) (all k l)))
+-- one register more
+pub clocks_more : (r : List ℕ) (n early_before late_before early_after late_after : ℕ) (register : Register) → register ≡ register_in r n → early_after ≡ min early_before register.early → late_after ≡ max late_before register.late →
+    late r n ≤ 1000000 → ClocksWithin r n early_before late_before → ClocksWithin r (n + 1) early_after late_after
+clocks_more r n early_before late_before early_after late_after register is lower upper small so_far =
+    let e : register.early ≡ early r n = ap (λ (x : Register). x.early) is in
+    let l : register.late ≡ late r n = ap (λ (x : Register). x.late) is in
+    record {
+      early = below_more (λ q. early_after ≤ early r q) n (λ q h. omega (arith, so_far.early q h)) (omega arith);
+      late = below_more (λ q. late r q ≤ late_after) n (λ q h. omega (arith, so_far.late q h)) (omega arith);
+      small = omega (arith, so_far.small);
+    }
 
 -- a history that goes back further than any delay and any register's decision
 pub wide_enough : (g r ts : List ℕ) (back seen most : ℕ) (h : History) → Fresh h (register_count r + gate_count g) back → seen ≡ output_late ts + setup ts → back ≡ max seen most →
-    ((k : ℕ) → k < gate_count g → ((gate_in g k).greatest_one ≤ most) × ((gate_in g k).greatest_two ≤ most)) → Wide (machine_in g r ts) h
+    DelaysWithin g (gate_count g) most → Wide (machine_in g r ts) h
 wide_enough g r ts back seen most h fresh see is all = record {
   rows = fresh.rows_are ∙ ap (λ (n : ℕ). register_count r + n) (sym (gates_in_length g));
   delays = λ k l.
@@ -98,13 +82,13 @@ module _ (s : Script) (g r ts : List ℕ) where
   }
 
   -- bits for as many cycles as two registers can be apart
-  pub bits_ready : (latest far apart : ℕ) (start after : History) → 0 < period ts → ((q : ℕ) → q < register_count r → latest - early r q ≤ far) → apart ≡ far / period ts → Fresh start (register_count r) apart →
+  pub bits_ready : (earliest latest far apart : ℕ) (start after : History) → 0 < period ts → ((q : ℕ) → q < register_count r → earliest ≤ early r q) → far ≡ latest - earliest → apart ≡ far / period ts → Fresh start (register_count r) apart →
       (start.rows ≡ register_count r → Started s g r ts (register_count r) start after) → BitsReady s g r ts latest after
-  bits_ready latest far apart start after some all is fresh started =
+  bits_ready earliest latest far apart start after some all far_is is fresh started =
       let now = started fresh.rows_are in
       record {
         rows = now.rows_same ∙ fresh.rows_are;
-        apart = λ q h. rw now.span_same (omega (arith, fresh.long, less_apart (latest - early r q) far (period ts) some (all q h)));
+        apart = λ q h. rw now.span_same (omega (arith, fresh.long, less_apart (latest - early r q) far (period ts) some (omega (arith, all q h))));
         start = now.bits;
       }
 

@@ -1,6 +1,6 @@
 -- A bench with what it is told, before a moment.
 use Rattle.std.specs.Prelude.{◌≡◌, ℕ, suc, ◌+◌, ◌-◌, ◌*◌, ◌/◌, ◌^◌, ◌<◌, ◌≤◌, true, List, length, Result, is_ok, vec_items}
-use Rattle.circuit.specs.Lent.{register_count, early, late, period, setup, output_late}
+use Rattle.circuit.specs.Lent.{register_count, gate_in, early, late, period, setup, output_late}
 use Rattle.circuit.specs.declared.refusal.Refusal.{Refusal}
 use Rattle.promise.specs.Machine.{machine_in, Formed}
 use Rattle.history.specs.declared.history.History.{History}
@@ -8,6 +8,7 @@ use Rattle.history.specs.Kept.{kept, span}
 use Rattle.simulation.specs.Simulated.{cycle}
 use Rattle.step.specs.Lent.{clocks_at}
 use Rattle.step.specs.Stands.{Wide, Stands, cycle_of}
+use Rattle.step.specs.declared.state.State.{State}
 use Rattle.script.specs.declared.script.Script.{Script}
 use Rattle.script.specs.Told.{start_told, told_by, Fits}
 use Rattle.telling.specs.Knows.{Knows, Begins}
@@ -30,6 +31,16 @@ pub record Roomy (g r ts : List ℕ) (y : Room) : Type 0 where
   pub apart : (q : ℕ) → q < register_count r → (y.latest - early r q) / period ts < span y.state.bits
   pub small : y.latest ≤ 1000000
 
+-- the first n gates have delays up to most
+abbrev pub DelaysWithin : (g : List ℕ) (n most : ℕ) → Type 0
+DelaysWithin g n most = (k : ℕ) → k < n → ((gate_in g k).greatest_one ≤ most) × ((gate_in g k).greatest_two ≤ most)
+
+-- the clocks of the first n registers come from earliest to latest in their cycle
+pub record ClocksWithin (r : List ℕ) (n earliest latest : ℕ) : Type 0 where
+  pub early : (q : ℕ) → q < n → earliest ≤ early r q
+  pub late : (q : ℕ) → q < n → late r q ≤ latest
+  pub small : latest ≤ 1000000
+
 -- the bits of cycle 0 of the registers below i are those of the start
 pub record Started (s : Script) (g r ts : List ℕ) (i : ℕ) (before after : History) : Type 0 where
   pub rows_same : after.rows ≡ before.rows
@@ -41,6 +52,13 @@ pub record BitsReady (s : Script) (g r ts : List ℕ) (latest : ℕ) (bits : His
   pub rows : bits.rows ≡ register_count r
   pub apart : (q : ℕ) → q < register_count r → (latest - early r q) / period ts < span bits
   pub start : (q : ℕ) → q < register_count r → kept bits q 0 ≡ start_told s g r ts q
+
+-- what is remembered before the first moment
+pub record AtFirst (s : Script) (g r ts : List ℕ) (latest : ℕ) (b : State) : Type 0 where
+  pub wide : Wide (machine_in g r ts) b.past
+  pub bits : BitsReady s g r ts latest b.bits
+  pub cycles_each : register_count r ≤ length (vec_items b.cycles)
+  pub cycles : (q : ℕ) → cycle_of b q ≡ 0
 
 -- a room that is made for a circuit and a script, before the first moment
 pub record Furnished (s : Script) (g r ts : List ℕ) (y : Room) : Type 0 where

@@ -1,12 +1,10 @@
 // Room for a circuit on the bench.
-ghost use Rattle.std.specs.Prelude.{◌≡◌, ℕ, ◌+◌, ◌<◌, List, map, max, IfOk, MatchResult, unwrap_or};
-ghost use Rattle.std.specs.Iterator.{ActsAs};
-ghost use Rattle.std.specs.List.{reduce};
-ghost use Rattle.circuit.specs.Checked.{of, registers_of};
-ghost use Rattle.circuit.specs.Lent.{period, setup, output_late};
+ghost use Rattle.std.specs.Prelude.{◌≡◌, ℕ, ◌+◌, ◌<◌, ◌≤◌, IfOk, MatchResult};
+ghost use Rattle.circuit.specs.Checked.{of, gates_of, registers_of};
+ghost use Rattle.circuit.specs.Lent.{period, early, setup, output_late};
 ghost use Rattle.promise.specs.Machine.{machine_in};
 ghost use Rattle.step.specs.Stands.{Wide};
-ghost use Rattle.trial.specs.Standing.{Started, BitsReady, Furnished, Standing};
+ghost use Rattle.trial.specs.Standing.{DelaysWithin, ClocksWithin, Started, BitsReady, AtFirst, Furnished, Standing};
 ghost use Rattle.trial.specs.Stopped.{Timeless, Stopped};
 
 use crate::room::Room;
@@ -19,12 +17,30 @@ use std::alloc::{AllocError, Global};
 use step::State;
 use telling::Teller;
 
-// The greatest of some sizes, 0 of none.
-fn greatest<T, F: FnMut(&T) -> u32>(items: &[T], size: F) -> u32
-    requires { (state : F) (x : _) → F.pre state x }
-    ensures { (measure : T → ℕ) → ActsAs F.FnMut size (λ x. measure x.now) → result ≡ unwrap_or (reduce max (map measure items.now)) 0 }
+// The greatest delay of the gates.
+fn greatest_delay(circuit: Circuit<'_>) -> u32
+    ensures { DelaysWithin circuit.entry.gates.now (gates_of circuit.entry) result }
 {
-    items.iter().map(size).max().unwrap_or(0)
+    let mut greatest: u32 = 0;
+    for numbers in circuit.gates() {
+        let gate = Gate::from(*numbers);
+        greatest = greatest.max(gate.greatest_one).max(gate.greatest_two);
+    }
+    greatest
+}
+
+// The earliest and the latest that a register's clock comes in its cycle.
+fn clock_bounds(circuit: Circuit<'_>) -> (u32, u32)
+    ensures { ClocksWithin circuit.entry.registers.now (registers_of circuit.entry) result.0 result.1 }
+{
+    let mut earliest = u32::MAX;
+    let mut latest: u32 = 0;
+    for numbers in circuit.registers() {
+        let register = Register::from(*numbers);
+        earliest = earliest.min(register.early);
+        latest = latest.max(register.late);
+    }
+    (earliest, latest)
 }
 
 // The bits of the first cycle. A loop over the numbers of registers: a history is written row by row, by number.
@@ -53,28 +69,45 @@ fn look_at_times(circuit: Circuit<'_>) -> Result<(), Refusal>
 fn past_for(heap: Global, circuit: Circuit<'_>) -> Result<History, AllocError>
     ensures { IfOk result (λ h. Wide (of circuit.entry machine_in) h) }
 {
-    let delay = greatest(circuit.gates(), |numbers| {
-        let gate = Gate::from(*numbers);
-        gate.greatest_one.max(gate.greatest_two)
-    });
+    let delay = greatest_delay(circuit);
     let seen = u64::from(circuit.output_late()) + u64::from(circuit.setup());
     History::new(heap, circuit.signal_count(), seen.max(u64::from(delay)))
 }
 
-// The registers' bits at the start, with places for as many cycles as two registers can be apart, if no clock comes later
-// in its cycle than `latest`.
-fn bits_for(heap: Global, bench: Bench<'_>, latest: u32) -> Result<History, AllocError>
-    requires { 0 < period bench.circuit.times.now }
+// The registers' bits at the start, with places for as many cycles as two registers can be apart, if no clock comes
+// earlier in its cycle than `earliest`, or later than `latest`.
+fn bits_for(
+    heap: Global,
+    bench: Bench<'_>,
+    earliest: u32,
+    latest: u32,
+) -> Result<History, AllocError>
+    requires period { 0 < period bench.circuit.times.now }
+    requires early { (q : ℕ) → q < registers_of bench.circuit → earliest ≤ early bench.circuit.registers.now q }
     ensures { IfOk result (λ h. of bench.entry.circuit (BitsReady bench.entry.script.now) latest h) }
 {
     let circuit = bench.circuit;
-    let apart = greatest(circuit.registers(), |numbers| {
-        latest.saturating_sub(Register::from(*numbers).early)
-    });
-    let cycles = u64::from(apart / circuit.period());
-    let mut bits = History::new(heap, circuit.register_count(), cycles)?;
+    let cycles = latest.saturating_sub(earliest) / circuit.period();
+    let mut bits = History::new(heap, circuit.register_count(), u64::from(cycles))?;
     start_bits(bench, &mut bits);
     Ok(bits)
+}
+
+// What is remembered before the first moment, with the registers in their first cycle.
+fn state_for(
+    heap: Global,
+    bench: Bench<'_>,
+    earliest: u32,
+    latest: u32,
+) -> Result<State, AllocError>
+    requires period { 0 < period bench.circuit.times.now }
+    requires early { (q : ℕ) → q < registers_of bench.circuit → earliest ≤ early bench.circuit.registers.now q }
+    ensures { IfOk result (λ b. of bench.entry.circuit (AtFirst bench.entry.script.now) latest b) }
+{
+    let past = past_for(heap, bench.circuit)?;
+    let bits = bits_for(heap, bench, earliest, latest)?;
+    let cycles = vec![in heap; 0; bench.circuit.register_count()]?;
+    Ok(State { past, bits, cycles })
 }
 
 // Room for a circuit and a script.
@@ -82,18 +115,12 @@ fn room_for(heap: Global, bench: Bench<'_>) -> Result<Room, AllocError>
     requires { 0 < period bench.circuit.times.now }
     ensures { IfOk result (λ y. of bench.entry.circuit (Furnished bench.entry.script.now) y) }
 {
-    let latest = greatest(
-        bench.circuit.registers(),
-        |numbers| Register::from(*numbers).late,
-    );
-    let state = State {
-        past: past_for(heap, bench.circuit)?,
-        bits: bits_for(heap, bench, latest)?,
-        cycles: vec![in heap; 0; bench.circuit.register_count()]?,
-    };
+    let (earliest, latest) = clock_bounds(bench.circuit);
+    let state = state_for(heap, bench, earliest, latest)?;
+    let teller = Teller::new(heap, bench)?;
     Ok(Room {
         state,
-        teller: Teller::new(heap, bench)?,
+        teller,
         latest,
     })
 }

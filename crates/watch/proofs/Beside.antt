@@ -1,10 +1,8 @@
 -- A run beside its drawing: before its first moment, one cycle further, and where they differ.
-use Rattle.std.proofs.Common.{◌≡◌, ℕ, suc, ◌<◌, min, Bool, true, false, List, length, Some, None, Option, Ok, Err, Result, is_ok, vec_items, sym, refl, ◌∙◌, inl, inr, arith}
+use Rattle.std.proofs.Common.{◌≡◌, ℕ, suc, ◌+◌, ◌-◌, ◌<◌, min, Bool, true, false, List, [], ◌∷◌, ◌++◌, length, Some, None, Option, Ok, Err, Result, is_ok, vec_items, sym, refl, ◌∙◌, inl, inr, arith, below_more, length-append}
 use mathlib.Core.Bool.{Bool-set}
 use mathlib.Core.Logic.{∥∥₁_elim}
-use Rattle.std.specs.List.{range_with_len}
-use Rattle.std.proofs.Common.{map}
-use Rattle.std.proofs.lemmas.List.FromFn.{get_or-map-range_with_len, length-map-range_with_len}
+use Rattle.std.proofs.lemmas.List.{get_or_append_left, get_or-append_right}
 use Rattle.circuit.specs.Filled.{Filled}
 use Rattle.circuit.specs.Checked.{of, registers_of, signals_of}
 use Rattle.circuit.specs.Lent.{takes}
@@ -27,8 +25,17 @@ use Rattle.watch.specs.Bits.{BitsOf, FirstDifference}
 use Rattle.watch.specs.Watched.{Watched}
 
 -- the values of f, one after another
-pub bits_of : (n : ℕ) (f : ℕ → Bool) (xs : List Bool) → xs ≡ map f (range_with_len 0 n) → BitsOf n f xs
-bits_of n f xs e = rw e (record { count = length-map-range_with_len f 0 n; each = λ q h. get_or-map-range_with_len f 0 n q q false h (omega arith) })
+pub no_bits : (f : ℕ → Bool) → BitsOf 0 f []
+no_bits f = record { count = refl; each = λ q h. absurd (omega arith) }
+
+pub bits_more : (n : ℕ) (f : ℕ → Bool) (xs : List Bool) (b : Bool) → b ≡ f n → BitsOf n f xs → BitsOf (n + 1) f (xs ++ b ∷ [])
+bits_more n f xs b is so_far =
+    let none : n - n ≡ 0 = omega arith in
+    let last : bit_at (xs ++ b ∷ []) n ≡ b = get_or-append_right xs (b ∷ []) n n false so_far.count (omega arith) ∙ rw none refl in
+    record {
+      count = length-append xs (b ∷ []) ∙ omega (arith, so_far.count);
+      each = below_more (λ q. bit_at (xs ++ b ∷ []) q ≡ f q) n (λ q h. get_or_append_left xs (b ∷ []) false q (omega (arith, so_far.count)) ∙ so_far.each q h) (last ∙ is);
+    }
 
 -- before the first moment the bits are the start's
 module _ (bench : Bench) (y : Trial) (begun : Begun bench y) (xs : List Bool) (start : BitsOf (registers_of bench.circuit) (of bench.circuit (start_told bench.script.now)) xs) where

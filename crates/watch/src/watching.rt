@@ -16,9 +16,12 @@ use trial::Trial;
 fn first_other(held: &[bool], drawn: &[bool]) -> Option<usize>
     ensures { FirstDifference (min (length held.now) (length drawn.now)) (bit_at held.now) (bit_at drawn.now) result }
 {
-    held.iter()
-        .zip(drawn.iter())
-        .position(|(held, drawn)| held != drawn)
+    for q in 0..held.len().min(drawn.len()) {
+        if held[q] != drawn[q] {
+            return Some(q);
+        }
+    }
+    None
 }
 
 impl<'a> Watch<'a> {

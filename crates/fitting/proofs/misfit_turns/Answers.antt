@@ -1,18 +1,19 @@
-use Rattle.std.proofs.Common.{sym, ◌∙◌, rules, arith}
-use borrow.Author.Tests.{tests}
-use Rattle.circuit.specs.Lent.{register_count}
-use Rattle.std.proofs.lemmas.Iterator.{YieldsList-from_range}
-use Rattle.std.proofs.lemmas.Iterator.Adapters.{option_map_id}
-use Rattle.std.proofs.lemmas.Iterator.Consumers.{YieldsList-from_filter_map, min_from_yields_List}
-use Rattle.fitting.proofs.Together.{turn_line, turn_line_is, turns_first}
+use Rattle.std.proofs.Common.{◌≡◌, arith}
+use Rattle.circuit.specs.Checked.{registers_of}
+use Rattle.fitting.proofs.Together.{turns_none, turns_more}
 use Rattle.fitting.proofs.misfit_turns.Goals as goal
+
+pub loop-r-init : goal.loop-r-init
+loop-r-init c =
+    let k = c.args.bench.circuit in
+    turns_none c.args.bench.script.now k.gates.now k.registers.now k.times.now
+
+pub loop-r-preserved : goal.loop-r-preserved
+loop-r-preserved c =
+    let k = c.args.bench.circuit in
+    turns_more c.args.bench.script.now k.gates.now k.registers.now k.times.now c.loop-r.r _ _ _ c.earlier-first.ensures c.loop-r.invariant c.misfit_turn.ensures
 
 pub returns : goal.returns
 returns c =
-    let k = c.args.bench.circuit in
-    let s = c.args.bench.script.now in
-    let n = register_count k.registers.now in
-    let line = turn_line s k.gates.now k.registers.now k.times.now in
-    let least = sym (option_map_id c.min.result) ∙ min_from_yields_List _ c.min.result c.min.ensures.ran
-    (YieldsList-from_filter_map _ line (YieldsList-from_range 0 n n (cc) (omega arith)) c.filter_map.ensures.closure (λ q o f call. (search (rules, tests), turn_line_is s k.gates.now k.registers.now k.times.now q o (search (rules, tests))))) in
-    rw least (turns_first s k.gates.now k.registers.now k.times.now n)
+    let all : c.loop-r.r ≡ registers_of c.args.bench.circuit = omega (arith, c.loop-r-test.false, c.loop-r.auto.r-end, c.register_count-r-end.ensures) in
+    rw all at c.loop-r.invariant

@@ -1,19 +1,19 @@
-use Rattle.std.proofs.Common.{◌≡◌, vec_items, map, rules, arith}
-use borrow.Author.Tests.{tests}
-use Rattle.std.specs.List.{range_with_len}
-use Rattle.std.proofs.lemmas.Iterator.{YieldsList-from_range, YieldsList-from_map, items_from_collect}
-use Rattle.std.proofs.lemmas.Result.{IfOk-weaker}
-use Rattle.circuit.specs.Lent.{register_count}
-use Rattle.telling.specs.Said.{FirstTold}
-use Rattle.telling.proofs.Following.{clocks_first, is_first, begun}
+use Rattle.std.proofs.Common.{◌≡◌, arith}
+use Rattle.circuit.specs.Checked.{registers_of}
+use Rattle.telling.proofs.Following.{none_first, first_more}
 use Rattle.telling.proofs.clocks_told.begin.Goals as goal
+
+pub loop-r-init : goal.loop-r-init
+loop-r-init c =
+    let k = c.args.bench.circuit in
+    rw c.in_ok-clocks.ensures.items (none_first c.args.bench.script.now k.gates.now k.registers.now k.times.now)
+
+pub loop-r-preserved : goal.loop-r-preserved
+loop-r-preserved c =
+    let k = c.args.bench.circuit in
+    rw c.in_ok-push.ensures.items (first_more c.args.bench.script.now k.gates.now k.registers.now k.times.now c.loop-r.r _ c.first.result c.first.ensures c.loop-r.invariant)
 
 pub returns : goal.returns
 returns c =
-    let k = c.args.bench.circuit in
-    let s = c.args.bench.script.now in
-    let n = register_count k.registers.now in
-    let clocks = clocks_first s k.gates.now k.registers.now k.times.now in
-    IfOk-weaker c.collect.result (λ v. vec_items v ≡ map clocks (range_with_len 0 n)) (λ v. FirstTold s k.gates.now k.registers.now k.times.now n (vec_items v)) (λ v e. begun s k.gates.now k.registers.now k.times.now n (vec_items v) e)
-    (items_from_collect c.collect.result c.collect.ensures.ran
-    (YieldsList-from_map _ clocks (YieldsList-from_range 0 n n (cc) (omega arith)) c.map.ensures.closure (λ q o f call. (search (rules, tests), is_first s k.gates.now k.registers.now k.times.now q o (search (rules, tests))))))
+    let all : c.loop-r.r ≡ registers_of c.args.bench.circuit = omega (arith, c.loop-r-test.false, c.loop-r.auto.r-end, c.register_count-n.ensures) in
+    rw all at c.loop-r.invariant

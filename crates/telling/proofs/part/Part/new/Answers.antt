@@ -1,6 +1,6 @@
-use Rattle.std.proofs.Common.{refl, arith, rules}
+use Rattle.std.proofs.Common.{refl, arith}
 use Rattle.telling.proofs.Beginning.{part_new}
 use Rattle.telling.proofs.part.Part.new.Goals as goal
 
 pub returns : goal.returns
-returns g c = part_new _ (omega (arith, c.in_ok-vec.ensures.len, c.in_ok-vec.field-0.ok.0)) (c.in_ok-vec-2.ensures.items_if_clones_equal (λ y e. search rules)) refl
+returns g c = part_new _ (omega (arith, c.in_ok-values.ensures.len, c.in_ok-values.values.ok.0)) c.in_ok-said.ensures refl
