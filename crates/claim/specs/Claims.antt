@@ -76,6 +76,10 @@ count_of Period = 1
 abbrev pub at : List ℤ → ℕ → ℤ
 at zs i = slice_index_or zs i (pos 0)
 
+-- the first four of some numbers, and zeros where there are fewer
+abbrev pub four : List ℤ → List ℤ
+four zs = at zs 0 ∷ at zs 1 ∷ at zs 2 ∷ at zs 3 ∷ []
+
 abbrev pub sums_of : List ℤ → Sums
 sums_of zs = record { register = at zs 0; arrival = at zs 1; limit = at zs 2 }
 

@@ -2,7 +2,7 @@
 
 // The two sums of a register that is named: of the setup sum its latest time and setup, then its period and early time; of
 // the hold sum its earliest time, then its late time and hold.
-#[derive(Clone, Copy, PartialEq, Debug)]
+#[derive(Clone, Copy, PartialEq)]
 pub struct Sums {
     pub register: i64,
     pub arrival: i64,
@@ -10,14 +10,14 @@ pub struct Sums {
 }
 
 // A register, and its margin.
-#[derive(Clone, Copy, PartialEq, Debug)]
+#[derive(Clone, Copy, PartialEq)]
 pub struct Worst {
     pub register: i64,
     pub margin: i64,
 }
 
 // One line of what is found of a circuit. All numbers are signed, as margins can be below 0 and latest times past 2^32.
-#[derive(Clone, Copy, PartialEq, Debug)]
+#[derive(Clone, Copy, PartialEq)]
 pub enum Claim {
     // The word: no register's input comes too late or changes too early.
     Passed,

@@ -1,73 +1,58 @@
 // Claims, read.
 ghost use Rattle.std.specs.Prelude.{◌≡◌};
 ghost use Rattle.lines.specs.Words.{words};
-ghost use Rattle.claim.specs.Claims.{claim_of, claim_with, count_of, sums_of, made, ClaimsAreRead};
+ghost use Rattle.claim.specs.Claims.{claim_of, claim_with, count_of, made, ClaimsAreRead};
 ghost use Rattle.claim.specs.Numbers.{integers};
-ghost use Rattle.claim.specs.declared.word.Word.TheVariants.{Smallest};
 
 use crate::kinds::{Claim, Sums, Worst};
-use crate::numbers::integers;
+use crate::numbers::up_to_four;
 use crate::word::Word;
 use fields::Expected;
 
-// The two sums of a register.
-fn sums(line: &[u8]) -> Result<Sums, Expected>
-    ensures { result ≡ made sums_of (integers 3 (words line.now)) }
-{
-    let [register, arrival, limit] = integers::<3>(line)?;
-    Ok(Sums {
-        register,
-        arrival,
-        limit,
-    })
-}
-
-// The smallest margins.
-fn smallest(line: &[u8]) -> Result<Claim, Expected>
-    ensures { result ≡ made (claim_with Smallest) (integers 4 (words line.now)) }
-{
-    let [setup_register, setup, hold_register, hold] = integers::<4>(line)?;
-    Ok(Claim::Smallest {
-        setup: Worst {
-            register: setup_register,
-            margin: setup,
-        },
-        hold: Worst {
-            register: hold_register,
-            margin: hold,
-        },
-    })
+impl Word {
+    // Its claim, of as many of these numbers as stand after it.
+    fn claim(self, numbers: [i64; 4]) -> Claim
+        ensures { result ≡ claim_with self numbers }
+    {
+        let [first, second, third, fourth] = numbers;
+        let sums = Sums {
+            register: first,
+            arrival: second,
+            limit: third,
+        };
+        match self {
+            Word::Passed => Claim::Passed,
+            Word::TooLate => Claim::TooLate(sums),
+            Word::TooEarly => Claim::TooEarly(sums),
+            Word::From => Claim::From(first),
+            Word::Through => Claim::Through {
+                signal: first,
+                input: second,
+            },
+            Word::Margins => Claim::Margins {
+                setup: first,
+                hold: second,
+            },
+            Word::Smallest => Claim::Smallest {
+                setup: Worst {
+                    register: first,
+                    margin: second,
+                },
+                hold: Worst {
+                    register: third,
+                    margin: fourth,
+                },
+            },
+            Word::Period => Claim::Period(first),
+        }
+    }
 }
 
 // The claim of a word, and what its line has after it.
 fn claim(word: Word, rest: &[u8]) -> Result<Claim, Expected>
     ensures { result ≡ made (claim_with word) (integers (count_of word) (words rest.now)) }
 {
-    Ok(match word {
-        Word::Passed => {
-            integers::<0>(rest)?;
-            Claim::Passed
-        }
-        Word::TooLate => Claim::TooLate(sums(rest)?),
-        Word::TooEarly => Claim::TooEarly(sums(rest)?),
-        Word::From => {
-            let [signal] = integers::<1>(rest)?;
-            Claim::From(signal)
-        }
-        Word::Through => {
-            let [signal, input] = integers::<2>(rest)?;
-            Claim::Through { signal, input }
-        }
-        Word::Margins => {
-            let [setup, hold] = integers::<2>(rest)?;
-            Claim::Margins { setup, hold }
-        }
-        Word::Smallest => smallest(rest)?,
-        Word::Period => {
-            let [picoseconds] = integers::<1>(rest)?;
-            Claim::Period(picoseconds)
-        }
-    })
+    Ok(word.claim(up_to_four(rest, word.count())?))
 }
 
 impl Claim {
@@ -76,8 +61,13 @@ impl Claim {
     pub fn read(line: &[u8]) -> Result<Claim, Expected>
         ensures { result ≡ claim_of (words line.now) }
     {
-        let (word, rest) = lines::word(line).ok_or(Expected::Claim)?;
-        claim(Word::of(word).ok_or(Expected::Claim)?, rest)
+        let Some((word, rest)) = lines::word(line) else {
+            return Err(Expected::Claim);
+        };
+        let Some(word) = Word::of(word) else {
+            return Err(Expected::Claim);
+        };
+        claim(word, rest)
     }
 }
 

@@ -1,9 +1,9 @@
 // The words by which claims begin.
-ghost use Rattle.std.specs.Prelude.{◌≡◌, find};
+ghost use Rattle.std.specs.Prelude.{◌≡◌, ◌≤◌, find};
 ghost use Rattle.std.specs.Str.{bytes_eq};
-ghost use Rattle.claim.specs.Claims.{text_of, named};
+ghost use Rattle.claim.specs.Claims.{text_of, count_of, named};
 
-#[derive(Clone, Copy, PartialEq, Debug)]
+#[derive(Clone, Copy)]
 pub(crate) enum Word {
     Passed,
     TooLate,
@@ -46,8 +46,22 @@ impl Word {
         first(text, &ALL)
     }
 
+    // How many numbers stand after it.
+    pub(crate) fn count(self) -> usize
+        ensures count { result ≡ count_of self }
+        ensures at_most { result ≤ 4 }
+    {
+        match self {
+            Word::Passed => 0,
+            Word::From | Word::Period => 1,
+            Word::Through | Word::Margins => 2,
+            Word::TooLate | Word::TooEarly => 3,
+            Word::Smallest => 4,
+        }
+    }
+
     // As it is written.
-    fn text(self) -> &'static str
+    pub(crate) fn text(self) -> &'static str
         ensures { result.now ≡ text_of self }
     {
         match self {

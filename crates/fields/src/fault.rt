@@ -7,7 +7,7 @@ use std::alloc::AllocError;
 use std::fmt;
 
 // What a text should have had.
-#[derive(Clone, Copy, PartialEq, Debug)]
+#[derive(Clone, Copy, PartialEq)]
 pub enum Expected {
     // The word `circuit`.
     Circuit,
@@ -51,9 +51,19 @@ pub enum Expected {
     ReportEnd,
 }
 
-impl fmt::Display for Expected {
-    fn fmt<W: fmt::Write>(&self, f: &mut fmt::Formatter<W>) -> fmt::Result {
-        f.write_str(match *self {
+impl Expected {
+    // What is said of it, where its words hold no number: up to a line that is named, this line, and what follows.
+    fn words(self) -> (&'static str, &'static str, &'static str) {
+        match self {
+            Expected::Once(line) => ("expected just one line `", line.word(), "`"),
+            Expected::NoEarlier(line) => (line.no_earlier(), line.word(), "` above"),
+            other => (other.plain(), "", ""),
+        }
+    }
+
+    // What is said of it, where its words hold no line and no number; else nothing.
+    fn plain(self) -> &'static str {
+        match self {
             Expected::Circuit => "expected a line `circuit` or `circuit NAME`",
             Expected::Name => "expected at most one name of printable ASCII after `circuit`",
             Expected::Statement =>
@@ -67,24 +77,40 @@ impl fmt::Display for Expected {
             Expected::FirstWord =>
                 "expected a line that begins with `cycles`, `start`, `random`, `clock`, `delay`, `show` \
                  or `take`",
-            Expected::After(line) => return f.write_str(line.after()),
+            Expected::After(line) => line.after(),
             Expected::Bit => "expected 0 or 1",
             Expected::Register => "expected a register of the circuit",
-            Expected::Once(line) => return write!(f, "expected just one line `{line}`"),
-            Expected::NoEarlier(line) => return write!(
-                f,
-                "expected a {} no earlier than that of the line `{line}` above",
-                line.time(),
-            ),
             Expected::Cycles => "expected a line `cycles`; the text ends without one",
             Expected::Claim =>
                 "expected a line that begins with `passed`, `too-late`, `too-early`, `from`, `through`, \
                  `margins`, `smallest`, `period` or `end`",
             Expected::Whole => "expected a whole number that fits 64 bits, with a sign or without",
             Expected::Numbers(1) => "expected 1 number after the line's word",
-            Expected::Numbers(n) => return write!(f, "expected {n} numbers after the line's word"),
             Expected::ReportEnd => "expected a line `end`; the text ends inside a report",
-        })
+            Expected::Once(_) | Expected::NoEarlier(_) | Expected::Numbers(_) => "",
+        }
+    }
+}
+
+impl fmt::Display for Expected {
+    fn fmt<W: fmt::Write>(&self, f: &mut fmt::Formatter<W>) -> fmt::Result {
+        match *self {
+            Expected::Numbers(n) if n != 1 => write!(
+                f,
+                "expected {n} numbers after the line's word"
+            ),
+            other => {
+                let (words, line, end) = other.words();
+                write!(f, "{words}{line}{end}")
+            }
+        }
+    }
+}
+
+// As it is said.
+impl fmt::Debug for Expected {
+    fn fmt<W: fmt::Write>(&self, f: &mut fmt::Formatter<W>) -> fmt::Result {
+        fmt::Display::fmt(self, f)
     }
 }
 
@@ -97,7 +123,7 @@ impl From<AllocError> for Expected {
 }
 
 // A fault of a text: the line, counted from 1, and what was expected there.
-#[derive(Clone, Copy, PartialEq, Debug)]
+#[derive(Clone, Copy, PartialEq)]
 pub struct Fault {
     pub line: usize,
     pub expected: Expected,
@@ -106,5 +132,12 @@ pub struct Fault {
 impl fmt::Display for Fault {
     fn fmt<W: fmt::Write>(&self, f: &mut fmt::Formatter<W>) -> fmt::Result {
         write!(f, "{}: {}", self.line, self.expected)
+    }
+}
+
+// As it is said.
+impl fmt::Debug for Fault {
+    fn fmt<W: fmt::Write>(&self, f: &mut fmt::Formatter<W>) -> fmt::Result {
+        fmt::Display::fmt(self, f)
     }
 }

@@ -1,7 +1,7 @@
 // The fields of a line: numbers, and a table by its name; and what a text should have had where it is at fault.
 #![tactic(auto)]
 
-ghost use Rattle.std.specs.Prelude.{◌≡◌, ℕ, true, position};
+ghost use Rattle.std.specs.Prelude.{◌≡◌, ℕ, position};
 ghost use Rattle.std.specs.Str.{bytes_eq};
 ghost use Rattle.lines.specs.Words.{words};
 ghost use Rattle.fields.specs.Fields.{named, name_of, field, fields, wanted};
@@ -57,7 +57,8 @@ fn place(w: &[u8], names: &[&str]) -> Option<usize>
 pub fn table_of(w: &[u8]) -> Option<u32>
     ensures { result ≡ named w.now }
 {
-    place(w, &NAMES).map(|k| k as u32)
+    let k = place(w, &NAMES)?;
+    Some(k as u32)
 }
 
 // The name of a table; empty past the sixteen.
@@ -67,13 +68,13 @@ pub fn name_of(table: u32) -> &'static str
     NAMES.get(table as usize).copied().unwrap_or("")
 }
 
-// A table, by its name or its number.
+// A number, or where a table may stand its name.
 #[tactic(auto, unfolding(crate::specs::Fields::field))]
-fn table(word: &[u8]) -> Result<u32, Expected>
-    ensures { result ≡ field true word.now }
+fn field(word: &[u8], may_be_table: bool) -> Result<u32, Expected>
+    ensures { result ≡ field may_be_table word.now }
 {
     match lines::value(word) {
-        Err(Unread::NoDigit) => table_of(word).ok_or(Expected::Table),
+        Err(Unread::NoDigit) if may_be_table => table_of(word).ok_or(Expected::Table),
         number => Ok(number?),
     }
 }
@@ -93,11 +94,7 @@ pub fn read<const N: usize>(
             return Ok(None);
         };
         let named = table_at == Some(i);
-        *number = if named {
-            table(word)?
-        } else {
-            lines::value(word)?
-        };
+        *number = field(word, named)?;
     }
     match words.next() {
         None => Ok(Some(numbers)),

@@ -3,10 +3,8 @@ ghost use Rattle.std.specs.Prelude.{◌≡◌, find};
 ghost use Rattle.std.specs.Str.{bytes_eq};
 ghost use Rattle.fields.specs.Lines.{word_of, line_of};
 
-use std::fmt;
-
 // What a line tells.
-#[derive(Clone, Copy, PartialEq, Debug)]
+#[derive(Clone, Copy, PartialEq)]
 pub enum Line {
     // How many cycles are to be run.
     Cycles,
@@ -82,17 +80,11 @@ impl Line {
         }
     }
 
-    // What orders its kind.
-    pub(crate) fn time(self) -> &'static str {
+    // What a line of its kind should have had that is out of order, up to its word.
+    pub(crate) fn no_earlier(self) -> &'static str {
         match self {
-            Line::Clock | Line::Take => "cycle",
-            _ => "moment",
+            Line::Clock | Line::Take => "expected a cycle no earlier than that of the line `",
+            _ => "expected a moment no earlier than that of the line `",
         }
-    }
-}
-
-impl fmt::Display for Line {
-    fn fmt<W: fmt::Write>(&self, f: &mut fmt::Formatter<W>) -> fmt::Result {
-        f.write_str(self.word())
     }
 }

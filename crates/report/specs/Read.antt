@@ -1,12 +1,27 @@
 -- What the reader of reports answers, by what a text means.
-use Rattle.std.specs.Prelude.{◌≡◌, ℕ, ◌<◌, ◌≤◌, ◌⊎◌, List, length, Some, None, Ok, Err, vec_items, Option, Result, MatchResult}
+use Rattle.std.specs.Prelude.{◌≡◌, ℕ, ◌<◌, ◌≤◌, ◌⊎◌, Bool, true, false, List, [], ◌∷◌, ◌++◌, length, Some, None, Ok, Err, vec_items, Option, Result, MatchResult}
 use Rattle.std.specs.Option as options
 use Rattle.lines.specs.Words.{lines, IsEnd}
+use Rattle.fields.specs.declared.fault.Expected.{Expected}
 use Rattle.fields.specs.declared.fault.Expected.TheVariants.{Memory}
 use Rattle.fields.specs.declared.fault.Fault.{Fault}
 use Rattle.text.specs.Meaning.{Drafted, drafted}
+use Rattle.claim.specs.declared.kinds.Claim.{Claim}
 use Rattle.report.specs.declared.reading.Report.{Report}
+use Rattle.report.specs.declared.reading.Said.{Said}
+use Rattle.report.specs.declared.reading.Said.TheVariants.{Nothing, Claim as Claims, End}
 use Rattle.report.specs.Meaning.{Claimed, Told}
+
+-- the claims cs with what a line says behind them, and whether it ends them
+abbrev pub added : Result Said Expected → List Claim → Result (Bool × List Claim) Expected
+added (Ok Nothing) cs = Ok (false, cs)
+added (Ok (Claims c)) cs = Ok (false, cs ++ c ∷ [])
+added (Ok End) cs = Ok (true, cs)
+added (Err e) cs = Err e
+
+-- the claims became these; or there is a fault, which may be want of memory
+abbrev pub WasAdded : Result (Bool × List Claim) Expected → (after : List Claim) → Result Bool Expected → Type 0
+WasAdded o after r = MatchResult r (λ ends. o ≡ Ok (ends, after)) (λ e. (e ≡ Memory) ⊎ (o ≡ Err e))
 
 -- the claims behind the circuit d were read, and what is left is an end of the text t; or there is a fault, which may be
 -- want of memory

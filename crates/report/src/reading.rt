@@ -1,8 +1,8 @@
 // Reports, read.
-ghost use Rattle.std.specs.Prelude.{◌≡◌, []};
+ghost use Rattle.std.specs.Prelude.{◌≡◌, [], vec_items};
 ghost use Rattle.lines.specs.Words.{words, lines};
 ghost use Rattle.report.specs.Meaning.{said, claims_from, first_report};
-ghost use Rattle.report.specs.Read.{WereRead, IsRead};
+ghost use Rattle.report.specs.Read.{added, WasAdded, WereRead, IsRead};
 ghost use Rattle.text.specs.Meaning.{drafted};
 
 use claim::Claim;
@@ -20,7 +20,7 @@ pub struct Report<'a> {
 }
 
 // What a line says behind a circuit.
-#[derive(Clone, Copy, PartialEq, Debug)]
+#[derive(Clone, Copy)]
 enum Said {
     Nothing,
     Claim(Claim),
@@ -45,23 +45,38 @@ impl Said {
     }
 }
 
+// The claim of a line that has no comment, behind the others. Answers whether the line ends them.
+fn add(claims: &mut Vec<Claim>, line: &[u8]) -> Result<bool, Expected>
+    ensures { WasAdded (added (said (words line.now)) (vec_items claims.old)) (vec_items claims.new) result }
+{
+    match Said::of(line)? {
+        Said::Nothing => Ok(false),
+        Said::Claim(claim) => {
+            let Ok(()) = claims.push(claim) else {
+                return Err(Expected::Memory);
+            };
+            Ok(false)
+        }
+        Said::End => Ok(true),
+    }
+}
+
 // The claims up to the report's end.
 fn claims<'a>(heap: Global, draft: Draft, mut rest: Lines<'a>) -> Result<Report<'a>, Fault>
     ensures { WereRead (claims_from rest.entry.number [] (lines rest.entry.text.now)) (drafted draft) rest.entry.text.now result }
 {
     let mut claims = Vec::new(heap);
     while let Some((line, text)) = rest.next() {
-        match Said::of(lines::bare(text)).map_err(|expected| Fault { line, expected })? {
-            Said::Nothing => {}
-            Said::Claim(claim) => claims.push(claim).map_err(|_| Fault {
-                line,
-                expected: Expected::Memory,
-            })?,
-            Said::End => return Ok(Report {
+        let ends = match add(&mut claims, lines::bare(text)) {
+            Ok(ends) => ends,
+            Err(expected) => return Err(Fault { line, expected }),
+        };
+        if ends {
+            return Ok(Report {
                 draft,
                 claims,
                 rest,
-            }),
+            });
         }
     }
     Err(Fault {

@@ -138,7 +138,9 @@ pub fn write(heap: Global, name: &[u8], circuit: Circuit<'_>) -> Result<String, 
     ensures written { IsWritten name.now circuit.entry result }
     ensures again { IfOk result (λ text. IsReadAgain name.now circuit.entry (string_bytes text)) }
 {
-    let name = titled(name).ok_or(Unwritten::Name)?;
+    let Some(name) = titled(name) else {
+        return Err(Unwritten::Name);
+    };
     let mut text = String::new(heap);
     put(&mut text, name, circuit)?;
     Ok(text)
