@@ -18,11 +18,11 @@ after_put k d (member l e ms) n p q =
     by_order _ (member k d (member l e ms)) (member l d ms) (member l e (put k d ms)) n (omega arith) (omega arith) (omega (arith, after_put k d ms n p (omega arith)))
 
 -- an object after a member was put into it, or could not be
-pub still : {A E : Type 0} (r : Result A E) (k : List ℕ) (d : Data) (before after : List Entry) →
-    OnOk r (members_view after ≡ put k d (members_view before)) → OnErr r (after ≡ before) → depth d ≤ 1 → members_depth (members_view before) ≤ 1 →
-    members_depth (members_view after) ≤ 1
-still (Ok u) k d before after ok err p q = rw ok (after_put k d _ 1 p q)
-still (Err e) k d before after ok err p q = rw err q
+pub still : {A E : Type 0} (r : Result A E) (k : List ℕ) (d : Data) (before after : List Entry) (n : ℕ) →
+    OnOk r (members_view after ≡ put k d (members_view before)) → OnErr r (after ≡ before) → depth d ≤ n → members_depth (members_view before) ≤ n →
+    members_depth (members_view after) ≤ n
+still (Ok u) k d before after n ok err p q = rw ok (after_put k d _ n p q)
+still (Err e) k d before after n ok err p q = rw err q
 
 -- an item more
 pub after_push : (vs : List Value) (v : Value) → items_depth (items_view vs) ≤ 0 → depth (view v) ≤ 0 → items_depth (items_view (vs ++ v ∷ [])) ≤ 0

@@ -15,8 +15,11 @@ pub(crate) struct Object {
     ghost shallow: { members_depth (members_view map.entries) ≤ 1 },
 }
 
+// What an object's members say of it: they are flat where those before were.
 impl Object {
-    pub(crate) fn new(heap: Global) -> Object {
+    pub(crate) fn new(heap: Global) -> Object
+        ensures { members_depth (members_view result.map.entries) ≤ 0 }
+    {
         Object {
             heap,
             map: Map::new(heap),
@@ -25,13 +28,34 @@ impl Object {
 
     pub(crate) fn put(&mut self, key: &str, value: Value) -> Result<(), AllocError>
         requires { depth (view value) ≤ 1 }
+        ensures { depth (view value) ≤ 0 → members_depth (members_view self.old.map.entries) ≤ 0 → members_depth (members_view self.new.map.entries) ≤ 0 }
     {
         serde_json::put(&mut self.map, self.heap, key, value)
+    }
+
+    pub(crate) fn put_number(&mut self, key: &str, number: u64) -> Result<(), AllocError>
+        ensures { members_depth (members_view self.old.map.entries) ≤ 0 → members_depth (members_view self.new.map.entries) ≤ 0 }
+    {
+        self.put(key, Value::from(number))
+    }
+
+    pub(crate) fn put_margin(&mut self, key: &str, margin: i64) -> Result<(), AllocError>
+        ensures { members_depth (members_view self.old.map.entries) ≤ 0 → members_depth (members_view self.new.map.entries) ≤ 0 }
+    {
+        self.put(key, Value::from(margin))
     }
 
     pub(crate) fn put_text(&mut self, key: &str, text: &str) -> Result<(), AllocError> {
         let text = String::from_str(self.heap, text)?;
         self.put(key, Value::from(text))
+    }
+
+    // The object as a member of another, which it can be if its own are flat.
+    pub(crate) fn into_value(self) -> Value
+        requires { members_depth (members_view self.map.entries) ≤ 0 }
+        ensures { depth (view result) ≤ 1 }
+    {
+        Value::from(self.map)
     }
 
     // The object as one line, without its end.

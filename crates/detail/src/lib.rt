@@ -1,6 +1,9 @@
 // What exactly is wrong with numbers that are turned away, with its words.
 #![tactic(auto)]
 
+use std::alloc::AllocError;
+
+pub mod bounds;
 mod column;
 mod wording;
 
@@ -27,10 +30,16 @@ pub enum Detail {
 }
 
 // A number that is too large, and which of its gate, its register or the times it is.
-#[derive(Clone, Copy)]
+#[derive(Copy)]
 pub struct Large<C> {
     pub column: C,
     pub value: u32,
+}
+
+impl<C: Copy> Clone for Large<C> {
+    fn clone(&self) -> Result<Self, AllocError> {
+        Ok(*self)
+    }
 }
 
 #[derive(Clone, Copy)]

@@ -1,71 +1,127 @@
 // A detail in words.
-use crate::{Detail, GateDetail, Large, RegisterDetail, TimesDetail};
+use crate::{Detail, GateDetail, Input, Large, RegisterDetail, TimesDetail};
 use circuit::{LARGEST, MOST_GATES, MOST_REGISTERS};
 use std::fmt;
 
-impl<C: fmt::Display> fmt::Display for Large<C> {
+// A sentence on a number that is wrong: what it is, the number, what is said of it, and the number that it is held against,
+// if there is one.
+#[derive(Clone, Copy)]
+struct Fault(&'static str, u32, &'static str, Option<u32>);
+
+impl fmt::Display for Fault {
     fn fmt<W: fmt::Write>(&self, f: &mut fmt::Formatter<W>) -> fmt::Result {
-        write!(f, "{} {} is above {LARGEST}", self.column, self.value)
+        let Fault(what, number, said, other) = self;
+        write!(f, "{what} {number} {said}")?;
+        match other {
+            Some(other) => write!(f, " {other}"),
+            None => Ok(()),
+        }
     }
 }
 
-impl fmt::Display for GateDetail {
-    fn fmt<W: fmt::Write>(&self, f: &mut fmt::Formatter<W>) -> fmt::Result {
+impl GateDetail {
+    // What is wrong, without the gate.
+    fn fault(self) -> Fault {
         match self {
-            GateDetail::Large(large) => write!(f, "{large}"),
-            GateDetail::NotBefore { input, signal } => write!(
-                f,
-                "{input} {signal} does not come before it"
+            GateDetail::Large(Large { column, value }) => Fault(
+                column.words(),
+                value,
+                "is above",
+                Some(LARGEST),
             ),
-            GateDetail::Table(table) => write!(f, "table {table} is above 15"),
+            GateDetail::NotBefore { input, signal } => Fault(
+                input.words(),
+                signal,
+                "does not come before it",
+                None,
+            ),
+            GateDetail::Table(table) => Fault("table", table, "is above", Some(15)),
             GateDetail::Delay {
                 input,
                 least,
                 greatest,
-            } => write!(
-                f,
-                "least delay {least} of the {input} is above its greatest {greatest}"
+            } => {
+                let above = match input {
+                    Input::First => "of the first input is above its greatest",
+                    Input::Second => "of the second input is above its greatest",
+                };
+                Fault("least delay", least, above, Some(greatest))
+            }
+        }
+    }
+}
+
+impl RegisterDetail {
+    // What is wrong, without the register.
+    fn fault(self) -> Fault {
+        match self {
+            RegisterDetail::Large(Large { column, value }) => Fault(
+                column.words(),
+                value,
+                "is above",
+                Some(LARGEST),
+            ),
+            RegisterDetail::Signal(signal) => Fault("signal", signal, "is past the circuit", None),
+            RegisterDetail::Clock { early, late } => Fault(
+                "early time",
+                early,
+                "is above its late time",
+                Some(late),
             ),
         }
     }
 }
 
-impl fmt::Display for RegisterDetail {
-    fn fmt<W: fmt::Write>(&self, f: &mut fmt::Formatter<W>) -> fmt::Result {
+impl TimesDetail {
+    // What is wrong with the times.
+    fn fault(self) -> Fault {
         match self {
-            RegisterDetail::Large(large) => write!(f, "{large}"),
-            RegisterDetail::Signal(signal) => write!(f, "signal {signal} is past the circuit"),
-            RegisterDetail::Clock { early, late } => write!(
-                f,
-                "early time {early} is above its late time {late}"
+            TimesDetail::Large(Large { column, value }) => Fault(
+                column.words(),
+                value,
+                "is above",
+                Some(LARGEST),
+            ),
+            TimesDetail::Output { earliest, latest } => Fault(
+                "earliest output time",
+                earliest,
+                "is above the latest",
+                Some(latest),
             ),
         }
     }
 }
 
-impl fmt::Display for TimesDetail {
-    fn fmt<W: fmt::Write>(&self, f: &mut fmt::Formatter<W>) -> fmt::Result {
-        match self {
-            TimesDetail::Large(large) => write!(f, "{large}"),
-            TimesDetail::Output { earliest, latest } => write!(
-                f,
-                "earliest output time {earliest} is above the latest {latest}"
-            ),
-        }
-    }
+// A count that no circuit has.
+fn put_count<W: fmt::Write>(f: &mut fmt::Formatter<W>, n: usize, said: &str) -> fmt::Result {
+    write!(f, "{n} {said}")
+}
+
+// What is wrong with one of the gates or registers.
+fn put_place<W: fmt::Write>(
+    f: &mut fmt::Formatter<W>,
+    what: &str,
+    place: usize,
+    fault: Fault,
+) -> fmt::Result {
+    write!(f, "{what} {place}: {fault}")
 }
 
 impl fmt::Display for Detail {
     fn fmt<W: fmt::Write>(&self, f: &mut fmt::Formatter<W>) -> fmt::Result {
-        match self {
-            Detail::GateNumbers(n) => write!(f, "{n} numbers are not seven for each gate"),
-            Detail::RegisterNumbers(n) => write!(f, "{n} numbers are not three for each register"),
-            Detail::TimeNumbers(n) => write!(f, "{n} times are not five"),
+        match *self {
+            Detail::GateNumbers(n) => put_count(f, n, "numbers are not seven for each gate"),
+            Detail::RegisterNumbers(n) => put_count(
+                f,
+                n,
+                "numbers are not three for each register",
+            ),
+            Detail::TimeNumbers(n) => put_count(f, n, "times are not five"),
             Detail::Registers(n) => write!(f, "{n} registers are not 1 to {MOST_REGISTERS}"),
             Detail::Gates(n) => write!(f, "{n} gates are more than {MOST_GATES}"),
-            Detail::Gate(k, detail) => write!(f, "gate {k}: {detail}"),
-            Detail::Register(r, detail) => write!(f, "register {r}: {detail}"),
-            Detail::Times(detail) => write!(f, "{detail}"),
+            Detail::Gate(k, detail) => put_place(f, "gate", k, detail.fault()),
+            Detail::Register(r, detail) => put_place(f, "register", r, detail.fault()),
+            Detail::Times(detail) => detail.fault().fmt(f),
         }
     }
 }

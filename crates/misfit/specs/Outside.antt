@@ -7,9 +7,9 @@ use Rattle.script.specs.declared.script.Script.{Script}
 use Rattle.script.specs.Entries.{entry}
 use Rattle.script.specs.Told.{DelayFits}
 use Rattle.fitting.specs.Misfit.{ClockWithin}
-use Rattle.bounds.specs.declared.Bounded.{Bounded}
-use Rattle.bounds.specs.declared.Misfit.{Misfit}
-use Rattle.bounds.specs.declared.Misfit.TheVariants.{NoGate, Delay, NoRegister, Clock}
+use Rattle.detail.specs.declared.bounds.Bounded.{Bounded}
+use Rattle.detail.specs.declared.bounds.Misfit.{Misfit}
+use Rattle.detail.specs.declared.bounds.Misfit.TheVariants.{NoGate, Delay, NoRegister, Clock}
 
 -- b is a number that was told, with its bounds, and is out of them
 pub record Out (b : Bounded) (told least greatest : ℕ) : Type 0 where

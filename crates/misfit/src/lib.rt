@@ -8,10 +8,10 @@ ghost use Rattle.script.specs.Told.{DelayFits};
 ghost use Rattle.fitting.specs.Misfit.{ClockWithin};
 ghost use Rattle.misfit.specs.Outside.{Out, DelayOutside, ClockOutside, WithinOn, Outside};
 
-use bounds::Bounded;
-pub use bounds::Misfit;
 use circuit::{Circuit, Gate, Register};
 use detail::Input;
+use detail::bounds::Bounded;
+pub use detail::bounds::Misfit;
 use script::{Entry, Script};
 
 // A number with its bounds, if it is out of them.
@@ -76,20 +76,31 @@ fn clock_misfit(circuit: Circuit<'_>, script: &Script, e: Entry) -> Option<Misfi
     Some(Misfit::Clock { register, bounded })
 }
 
-// The first misfit among the statements on a line.
-fn first_on<F: Fn(Entry) -> Option<Misfit>>(
-    entries: &[Entry],
-    line: usize,
-    misfit: F,
-) -> Option<Misfit>
-    requires { F.IsAlwaysCallable misfit }
+// The first misfit among the delays that are told on a line.
+fn delay_on(circuit: Circuit<'_>, script: &Script, line: usize) -> Option<Misfit>
     ensures { MatchOption result
-        ((i : ℕ) → i < length entries.now → (entry entries.now i).line ≡ line → F.post misfit (entry entries.now i) None)
-        (λ w. (i : ℕ) × (i < length entries.now) × ((entry entries.now i).line ≡ line) × F.post misfit (entry entries.now i) (Some w)) }
+        ((i : ℕ) → i < length script.now.delays → (entry script.now.delays i).line ≡ line → of circuit.entry (DelayFits script.now) (entry script.now.delays i))
+        (λ w. (i : ℕ) × (i < length script.now.delays) × ((entry script.now.delays i).line ≡ line) × of circuit.entry (DelayOutside script.now) (entry script.now.delays i) w) }
 {
-    for e in entries {
+    for e in script.delays.as_slice() {
         if e.line == line {
-            if let Some(found) = misfit(*e) {
+            if let Some(found) = delay_misfit(circuit, script, *e) {
+                return Some(found);
+            }
+        }
+    }
+    None
+}
+
+// The first misfit among the clocks that are told on a line.
+fn clock_on(circuit: Circuit<'_>, script: &Script, line: usize) -> Option<Misfit>
+    ensures { MatchOption result
+        ((i : ℕ) → i < length script.now.clocks → (entry script.now.clocks i).line ≡ line → ClockWithin circuit.entry.registers.now (entry script.now.clocks i))
+        (λ w. (i : ℕ) × (i < length script.now.clocks) × ((entry script.now.clocks i).line ≡ line) × of circuit.entry (ClockOutside script.now) (entry script.now.clocks i) w) }
+{
+    for e in script.clocks.as_slice() {
+        if e.line == line {
+            if let Some(found) = clock_misfit(circuit, script, *e) {
                 return Some(found);
             }
         }
@@ -103,27 +114,8 @@ pub fn explain(circuit: Circuit<'_>, script: &Script, line: usize) -> Option<Mis
         (of circuit.entry (WithinOn script.now) line)
         (λ w. of circuit.entry (Outside script.now) line w) }
 {
-    let delays = script.delays.as_slice();
-    let delay = first_on(
-        delays,
-        line,
-        |e: Entry|
-            ensures { MatchOption result
-                (of circuit.entry (DelayFits script.entry.now) e)
-                (λ w. of circuit.entry (DelayOutside script.entry.now) e w) }
-        { delay_misfit(circuit, script, e) },
-    );
-    if let Some(found) = delay {
+    if let Some(found) = delay_on(circuit, script, line) {
         return Some(found);
     }
-    let clocks = script.clocks.as_slice();
-    first_on(
-        clocks,
-        line,
-        |e: Entry|
-            ensures { MatchOption result
-                (ClockWithin circuit.entry.registers.now e)
-                (λ w. of circuit.entry (ClockOutside script.entry.now) e w) }
-        { clock_misfit(circuit, script, e) },
-    )
+    clock_on(circuit, script, line)
 }

@@ -5,8 +5,9 @@ use arrival::{Arrivals, Edge, MOST_SIGNALS, fill_from_registers};
 use circuit::{Circuit, Register};
 use signoff::{LONGEST_PATH, Verdict};
 use std::fmt;
-use std::fmt::Write;
 
+mod shown;
+pub mod steps;
 mod wording;
 
 // A register, and the sum that is looked at: the one of its latest or of its earliest time.
@@ -42,10 +43,9 @@ fn put_table(
     let Ok(length) = path::path(a, edge, row.signal as usize, room) else {
         unreachable!()
     };
-    wording::put_head(out, a, edge, register, row)?;
+    wording::put_head(out, a.circuit, edge, register, row)?;
     wording::put_path(out, a, edge, &room[..length])?;
     wording::put_ends(out, ends)?;
-    writeln!(out)?;
     Ok(())
 }
 

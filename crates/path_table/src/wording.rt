@@ -1,11 +1,12 @@
 // The lines of a table.
+use crate::steps::step;
 use arrival::{Arrivals, Edge};
-use circuit::Register;
+use circuit::{Circuit, Register};
 use fields::name_of;
 use slack::Ends;
+use std::alloc::AllocError;
 use std::fmt;
 use std::fmt::Write;
-use steps::step;
 
 // What is told of the sources of paths and of gates: the columns are as wide as the largest circuit's numbers.
 fn put_row(
@@ -15,51 +16,58 @@ fn put_row(
     input: &str,
     delay: u32,
     time: u64,
-) -> fmt::Result {
+) -> Result<(), AllocError> {
     writeln!(
         out,
         "    {signal:>6}  {table:<19}  {input:>5}  {delay:>8}  {time:>12}"
-    )?;
-    Ok(())
+    )
+}
+
+// The sum of a register's setup, and what stands in each column.
+fn put_setup(
+    out: &mut String,
+    register: usize,
+    period: u32,
+    early: u32,
+    setup: u32,
+) -> Result<(), AllocError> {
+    writeln!(
+        out,
+        "  register {register}, setup: latest time, at most period {period} + early {early} - setup {setup}
+    signal  table                input  greatest          time"
+    )
+}
+
+// The same of its hold.
+fn put_hold(out: &mut String, register: usize, late: u32, hold: u32) -> Result<(), AllocError> {
+    writeln!(
+        out,
+        "  register {register}, hold: earliest time, at least late {late} + hold {hold} + 1
+    signal  table                input     least          time"
+    )
 }
 
 // What is looked at, what it has to be, and what stands in each column.
 pub(crate) fn put_head(
     out: &mut String,
-    a: Arrivals<'_, '_>,
+    circuit: Circuit<'_>,
     edge: Edge,
     register: usize,
     row: Register,
-) -> fmt::Result {
-    let Register { early, late, .. } = row;
-    let bound = match edge {
-        Edge::Late => {
-            let (period, setup) = (a.circuit.period(), a.circuit.setup());
-            writeln!(
-                out,
-                "  register {register}, setup: latest time, at most period {period} + early {early} - setup {setup}"
-            )?;
-            "greatest"
-        }
-        Edge::Early => {
-            let hold = a.circuit.hold();
-            writeln!(
-                out,
-                "  register {register}, hold: earliest time, at least late {late} + hold {hold} + 1"
-            )?;
-            "least"
-        }
-    };
-    writeln!(
-        out,
-        "    {:>6}  {:<19}  {:>5}  {bound:>8}  {:>12}",
-        "signal", "table", "input", "time"
-    )?;
-    Ok(())
+) -> Result<(), AllocError> {
+    match edge {
+        Edge::Late => put_setup(out, register, circuit.period(), row.early, circuit.setup()),
+        Edge::Early => put_hold(out, register, row.late, circuit.hold()),
+    }
 }
 
 // Where a path begins: when the clock comes to the register, and how long its output takes.
-fn put_source(out: &mut String, a: Arrivals<'_, '_>, edge: Edge, register: usize) -> fmt::Result {
+fn put_source(
+    out: &mut String,
+    a: Arrivals<'_, '_>,
+    edge: Edge,
+    register: usize,
+) -> Result<(), AllocError> {
     let Some(row) = a.circuit.registers().get(register) else {
         return Ok(());
     };
@@ -95,15 +103,15 @@ pub(crate) fn put_path(
     Ok(())
 }
 
-// A time at the end of a path.
-fn put_end(out: &mut String, label: &str, time: i64) -> fmt::Result {
-    writeln!(out, "    {label:<44}  {time:>12}")?;
-    Ok(())
-}
-
-// The three times at the end.
-pub(crate) fn put_ends(out: &mut String, ends: Ends) -> fmt::Result {
-    put_end(out, "arrival", ends.arrival)?;
-    put_end(out, "required", ends.required)?;
-    put_end(out, "margin", ends.margin)
+// The three times at the end, and an empty line.
+pub(crate) fn put_ends(out: &mut String, ends: Ends) -> Result<(), AllocError> {
+    let Ends {
+        arrival,
+        required,
+        margin,
+    } = ends;
+    writeln!(
+        out,
+        "    arrival  {arrival:>49}\n    required {required:>49}\n    margin   {margin:>49}\n"
+    )
 }

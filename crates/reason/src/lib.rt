@@ -129,24 +129,16 @@ fn output(numbers: Numbers<'_>) -> TimesDetail
     }
 }
 
-// Why numbers are turned away, or None where they are a circuit.
+// What exactly is wrong with numbers that a refusal turns away.
 #[tactic(auto, using(circuit::proofs::Order::shaped_before))]
-pub fn explain(gates: &[u32], registers: &[u32], times: &[u32]) -> Option<Reason>
-    ensures { MatchOption result
-        (Whole gates.now registers.now times.now)
-        (λ x. FirstRefusal gates.now registers.now times.now x.refusal
-        × TrueOf gates.now registers.now times.now x.refusal x.detail) }
+fn detail(numbers: Numbers<'_>, refusal: Refusal) -> Detail
+    requires { lent numbers FirstRefusal refusal }
+    ensures { lent numbers.entry TrueOf refusal result }
 {
-    let refusal = circuit::look(gates, registers, times).err()?;
-    let numbers = Numbers {
-        gates,
-        registers,
-        times,
-    };
-    let detail = match refusal {
-        Refusal::GateNumbers => Detail::GateNumbers(gates.len()),
-        Refusal::RegisterNumbers => Detail::RegisterNumbers(registers.len()),
-        Refusal::TimeNumbers => Detail::TimeNumbers(times.len()),
+    match refusal {
+        Refusal::GateNumbers => Detail::GateNumbers(numbers.gates.len()),
+        Refusal::RegisterNumbers => Detail::RegisterNumbers(numbers.registers.len()),
+        Refusal::TimeNumbers => Detail::TimeNumbers(numbers.times.len()),
         Refusal::RegisterCount => Detail::Registers(numbers.registers().len()),
         Refusal::GateCount => Detail::Gates(numbers.gates().len()),
         Refusal::TooLarge(p) => large(numbers, p),
@@ -160,6 +152,24 @@ pub fn explain(gates: &[u32], registers: &[u32], times: &[u32]) -> Option<Reason
         | Refusal::OutOfBounds(_)
         | Refusal::NoPeriod
         | Refusal::NoMoment => unreachable!(),
+    }
+}
+
+// Why numbers are turned away, or None where they are a circuit.
+pub fn explain(gates: &[u32], registers: &[u32], times: &[u32]) -> Option<Reason>
+    ensures { MatchOption result
+        (Whole gates.now registers.now times.now)
+        (λ x. FirstRefusal gates.now registers.now times.now x.refusal
+        × TrueOf gates.now registers.now times.now x.refusal x.detail) }
+{
+    let Err(refusal) = circuit::look(gates, registers, times) else {
+        return None;
     };
+    let numbers = Numbers {
+        gates,
+        registers,
+        times,
+    };
+    let detail = detail(numbers, refusal);
     Some(Reason { refusal, detail })
 }

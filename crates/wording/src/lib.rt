@@ -36,10 +36,16 @@ impl fmt::Display for Title<'_> {
 }
 
 // A refusal, and why it applies: what stands behind `turned away by`.
-#[derive(Clone, Copy)]
+#[derive(Copy)]
 pub struct TurnedAway<D> {
     pub refusal: Refusal,
     pub why: D,
+}
+
+impl<D: Copy> Clone for TurnedAway<D> {
+    fn clone(&self) -> Result<Self, AllocError> {
+        Ok(*self)
+    }
 }
 
 // Why a circuit that was read is turned away: a line has another count of numbers than it should, in words; or what is
@@ -54,7 +60,7 @@ impl fmt::Display for Why {
     fn fmt<W: fmt::Write>(&self, f: &mut fmt::Formatter<W>) -> fmt::Result {
         match self {
             Why::Miscount(words) => f.write_str(words),
-            Why::Detail(detail) => write!(f, "{detail}"),
+            Why::Detail(detail) => detail.fmt(f),
         }
     }
 }
@@ -104,15 +110,25 @@ pub struct Missed<'a> {
     pub room: &'a [u32],
 }
 
+impl Missed<'_> {
+    // The gates of the path, by which the register misses.
+    fn put_gates<W: fmt::Write>(&self, f: &mut fmt::Formatter<W>) -> fmt::Result {
+        let mut before = " by ";
+        for i in (1..self.miss.path).step_by(2) {
+            let Some(gate) = self.room.get(i) else {
+                break;
+            };
+            write!(f, "{before}{gate}")?;
+            before = ", ";
+        }
+        Ok(())
+    }
+}
+
 impl fmt::Display for Missed<'_> {
     fn fmt<W: fmt::Write>(&self, f: &mut fmt::Formatter<W>) -> fmt::Result {
         write!(f, "at {}", self.miss.register)?;
-        let gates = self.room.iter().take(self.miss.path).skip(1).step_by(2);
-        // To take the first gate before the loop, in place of `i == 0`, would have the writing of a gate twice.
-        for (i, gate) in gates.enumerate() {
-            let before = if i == 0 { " by " } else { ", " };
-            write!(f, "{before}{gate}")?;
-        }
+        self.put_gates(f)?;
         write!(f, ": {} and {}", self.miss.arrival, self.miss.limit)
     }
 }
@@ -139,15 +155,15 @@ struct Shortest(u64);
 
 impl fmt::Display for Shortest {
     fn fmt<W: fmt::Write>(&self, f: &mut fmt::Formatter<W>) -> fmt::Result {
-        write!(f, "{}", self.0)?;
         match slack::frequency(self.0) {
             Some(thousandths) => write!(
                 f,
-                ", {}.{:03} MHz",
+                "{}, {}.{:03} MHz",
+                self.0,
                 thousandths / 1000,
                 thousandths % 1000
             ),
-            None => Ok(()),
+            None => self.0.fmt(f),
         }
     }
 }

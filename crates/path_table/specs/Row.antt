@@ -6,7 +6,7 @@ use Rattle.circuit.specs.declared.circuit.Circuit as checked
 use Rattle.arrival.specs.Arrival.{delay}
 use Rattle.arrival.specs.Lent.{time_of}
 use Rattle.arrival.specs.declared.edge.Edge.{Edge}
-use Rattle.steps.specs.declared.shown.Step.{Step}
+use Rattle.path_table.specs.declared.shown.Step.{Step}
 
 -- the signal is that of gate k
 abbrev pub IsGate : checked.Circuit → (signal k : ℕ) → Type 0

@@ -1,16 +1,11 @@
 // The steps of paths, looked up in a circuit and its times.
-#![tactic(auto)]
-
 ghost use Rattle.std.specs.Prelude.{◌≤◌, ◌<◌, ◌⊎◌, MatchOption};
 ghost use Rattle.circuit.specs.Checked.{registers_of, signals_of};
-ghost use Rattle.steps.specs.Row.{IsStep};
+ghost use Rattle.path_table.specs.Row.{IsStep};
 
+pub use crate::shown::Step;
 use arrival::{Arrivals, Edge};
 use circuit::Gate;
-
-mod shown;
-
-pub use shown::Step;
 
 // The step to a gate's signal by one of its inputs, None where the signal is no gate's.
 pub fn step(a: Arrivals<'_, '_>, edge: Edge, signal: usize, second: bool) -> Option<Step>
