@@ -1,50 +1,51 @@
 // Runs, and what they come to.
 use crate::command::Task;
+use crate::halt::Halt;
 use crate::progress::{OneOf, Progress};
-use crate::report::{Cycle, Difference, Found, Tried};
+use crate::report::{Cycle, Difference, Ended, Found, Tried};
 use crate::vcd::Dump;
-use anyhow::anyhow;
 use circuit::{Circuit, Refusal};
 use clocks::Bench;
 use script::Script;
-use std::io;
-use trial::Stop;
+use trial::Trial;
 use watch::Watch;
-
-// Why a run did not come to its end.
-#[derive(Drop)]
-pub(crate) enum Halt {
-    // The circuit, or what is told to it, is turned away.
-    Refused(Refusal),
-    Failed(anyhow::Error),
-}
-
-impl From<Stop> for Halt {
-    fn from(stop: Stop) -> Halt {
-        match stop {
-            Stop::Refused(refusal) => Halt::Refused(refusal),
-            Stop::Memory => Halt::Failed(anyhow!("memory is short")),
-        }
-    }
-}
-
-impl From<io::Error> for Halt {
-    fn from(e: io::Error) -> Halt {
-        Halt::Failed(e.into())
-    }
-}
-
-impl From<anyhow::Error> for Halt {
-    fn from(e: anyhow::Error) -> Halt {
-        Halt::Failed(e)
-    }
-}
 
 // What goes on beside a run: a dump that is written of it, and what is told of how far it is.
 #[derive(Drop)]
 struct Beside {
     dump: Option<Dump>,
     progress: Progress,
+}
+
+impl Beside {
+    // Before the run: the dump that is asked for is begun.
+    fn begin(&mut self, rt: &HostRuntime, task: &Task<'_>, bench: Bench<'_>) -> Result<(), Halt> {
+        if let Some(path) = task.vcd {
+            self.dump = Some(Dump::new(rt, path, bench)?);
+        }
+        Ok(())
+    }
+
+    // The moment that has just gone.
+    fn moment(
+        &mut self,
+        rt: &HostRuntime,
+        bench: Bench<'_>,
+        trial: &Trial<'_>,
+    ) -> Result<(), Halt> {
+        if let Some(dump) = &mut self.dump {
+            dump.moment(bench, trial)?;
+        }
+        Ok(self.progress.moment(rt, trial.done(), bench.script.cycles)?)
+    }
+
+    // The end of the run.
+    fn finish(&mut self, trial: &Trial<'_>) -> Result<(), Halt> {
+        match &mut self.dump {
+            Some(dump) => dump.finish(trial),
+            None => Ok(()),
+        }
+    }
 }
 
 // To the end of cycle `number`, the next one: the first register that is not as drawn.
@@ -54,68 +55,79 @@ fn go_on(
     watch: &mut Watch<'_>,
     beside: &mut Beside,
     number: u32,
-) -> anyhow::Result<Option<Difference>> {
+) -> Result<Option<Difference>, Halt> {
     while watch.step() {
-        if let Some(dump) = &mut beside.dump {
-            dump.moment(bench, watch.trial())?;
-        }
-        let done = watch.trial().done();
-        beside.progress.moment(rt, done, bench.script.cycles)?;
+        beside.moment(rt, bench, watch.trial())?;
     }
     watch.cycle();
-    let register = watch.first_difference();
-    Ok(register.map(|register| Difference {
-        cycle: number,
-        register,
-    }))
+    match watch.first_difference() {
+        Some(register) => Ok(Some(Difference {
+            cycle: number,
+            register,
+        })),
+        None => Ok(None),
+    }
 }
 
-// The dump that is asked for, begun.
-fn dump_for(rt: &HostRuntime, task: &Task, bench: Bench<'_>) -> anyhow::Result<Option<Dump>> {
-    let Some(path) = &task.vcd else {
-        return Ok(None);
-    };
-    Ok(Some(Dump::new(rt, path.as_str(), bench)?))
+// All cycles of a run, each of which is printed.
+fn print_cycles(
+    rt: &HostRuntime,
+    bench: Bench<'_>,
+    watch: &mut Watch<'_>,
+    beside: &mut Beside,
+) -> Result<Option<Difference>, Halt> {
+    let mut first = None;
+    for done in 0..bench.script.cycles {
+        let number = done + 1;
+        first = first.or(go_on(rt, bench, watch, beside, number)?);
+        let cycle = Cycle { number, watch };
+        println!(rt; "{cycle}")?;
+    }
+    Ok(first)
 }
 
 // A run, of which each cycle is printed.
-pub(crate) fn print_run(rt: &HostRuntime, task: &Task, bench: Bench<'_>) -> Result<Found, Halt> {
-    let cycles = bench.script.cycles;
-    let mut watch = Watch::prepare(rt.alloc(), bench)?;
-    let mut beside = Beside {
-        dump: dump_for(rt, task, bench)?,
-        progress: Progress::new(rt, task.quiet)?,
-    };
-    let mut first = None;
-    for done in 0..cycles {
-        let number = done + 1;
-        first = first.or(go_on(rt, bench, &mut watch, &mut beside, number)?);
-        let cycle = Cycle {
-            number,
-            watch: &watch,
-        };
-        println!(rt; "{cycle}")?;
-    }
-    if let Some(dump) = &mut beside.dump {
-        dump.finish(watch.trial())?;
-    }
-    Ok(Found { cycles, first })
+fn print_run(
+    rt: &HostRuntime,
+    task: &Task<'_>,
+    bench: Bench<'_>,
+    watch: &mut Watch<'_>,
+    beside: &mut Beside,
+) -> Result<Option<Difference>, Halt> {
+    beside.begin(rt, task, bench)?;
+    let first = print_cycles(rt, bench, watch, beside)?;
+    beside.finish(watch.trial())?;
+    Ok(first)
 }
 
-// Where a run first differs from the drawing.
-fn first_difference(
+// The cycles of a run, up to the first that differs from the drawing.
+fn go_until_different(
     rt: &HostRuntime,
-    beside: &mut Beside,
     bench: Bench<'_>,
+    watch: &mut Watch<'_>,
+    beside: &mut Beside,
 ) -> Result<Option<Difference>, Halt> {
-    let mut watch = Watch::prepare(rt.alloc(), bench)?;
     for done in 0..bench.script.cycles {
-        let difference = go_on(rt, bench, &mut watch, beside, done + 1)?;
+        let difference = go_on(rt, bench, watch, beside, done + 1)?;
         if difference.is_some() {
             return Ok(difference);
         }
     }
     Ok(None)
+}
+
+// Where a run first differs from the drawing. It is printed where it is the only one.
+fn first_difference(
+    rt: &HostRuntime,
+    task: &Task<'_>,
+    bench: Bench<'_>,
+    beside: &mut Beside,
+) -> Result<Option<Difference>, Halt> {
+    let mut watch = Watch::prepare(rt.alloc(), bench)?;
+    match task.trials {
+        None => print_run(rt, task, bench, &mut watch, beside),
+        Some(_) => go_until_different(rt, bench, &mut watch, beside),
+    }
 }
 
 // Whether a run is not made by its number alone: a told clock does not come after the one before it, which was chosen.
@@ -129,6 +141,18 @@ fn by_number(bench: Bench<'_>, refusal: Refusal) -> bool {
 }
 
 impl Tried {
+    // No run, each of so many cycles.
+    fn none(cycles: u32) -> Tried {
+        Tried {
+            made: 0,
+            cycles,
+            wrong: 0,
+            first_wrong: None,
+            not_made: 0,
+            first_not_made: None,
+        }
+    }
+
     // One run more, from this number, and what it came to.
     fn add(&mut self, seed: u32, difference: Option<Difference>) {
         self.made = self.made.saturating_add(1);
@@ -145,37 +169,78 @@ impl Tried {
     }
 }
 
-// So many runs, from the number that is told and the ones after it. All are numbers that can be told.
-pub(crate) fn try_runs(
+// One run more, from this number.
+fn try_run(
     rt: &HostRuntime,
-    task: &Task,
+    task: &Task<'_>,
+    bench: Bench<'_>,
+    beside: &mut Beside,
+    tried: &mut Tried,
+    seed: u32,
+) -> Result<(), Halt> {
+    match first_difference(rt, task, bench, beside) {
+        Ok(difference) => tried.add(seed, difference),
+        Err(Halt::Refused(refusal)) if by_number(bench, refusal) => tried.add_not_made(seed),
+        Err(halt) => return Err(halt),
+    }
+    Ok(())
+}
+
+// So many runs, from the number that is told and the ones after it. All are numbers that can be told.
+fn try_runs(
+    rt: &HostRuntime,
+    task: &Task<'_>,
     circuit: Circuit<'_>,
     script: &mut Script,
+    beside: &mut Beside,
     runs: u32,
 ) -> Result<Tried, Halt> {
     let from = u32::try_from(script.seed.unwrap_or(0)).unwrap_or(0);
-    let mut beside = Beside {
-        dump: None,
-        progress: Progress::new(rt, task.quiet)?,
-    };
-    let mut tried = Tried {
-        made: 0,
-        cycles: script.cycles,
-        wrong: 0,
-        first_wrong: None,
-        not_made: 0,
-        first_not_made: None,
-    };
+    let mut tried = Tried::none(script.cycles);
     for i in 0..runs {
         let seed = from.wrapping_add(i);
         script.seed = Some(u64::from(seed));
         beside.progress.run = Some(OneOf(i + 1, runs));
-        let bench = Bench { circuit, script };
-        match first_difference(rt, &mut beside, bench) {
-            Ok(difference) => tried.add(seed, difference),
-            Err(Halt::Refused(refusal)) if by_number(bench, refusal) => tried.add_not_made(seed),
-            Err(halt) => return Err(halt),
-        }
+        try_run(
+            rt,
+            task,
+            Bench { circuit, script },
+            beside,
+            &mut tried,
+            seed,
+        )?;
     }
     Ok(tried)
+}
+
+// The one run that is asked for.
+fn make_run(
+    rt: &HostRuntime,
+    task: &Task<'_>,
+    bench: Bench<'_>,
+    beside: &mut Beside,
+) -> Result<Found, Halt> {
+    let first = first_difference(rt, task, bench, beside)?;
+    Ok(Found {
+        cycles: bench.script.cycles,
+        first,
+    })
+}
+
+// One run, or as many as are asked for.
+pub(crate) fn make_runs(
+    rt: &HostRuntime,
+    task: &Task<'_>,
+    circuit: Circuit<'_>,
+    script: &mut Script,
+) -> Result<Ended, Halt> {
+    let progress = Progress::new(rt, task.quiet)?;
+    let mut beside = Beside {
+        dump: None,
+        progress,
+    };
+    match task.trials {
+        None => { make_run(rt, task, Bench { circuit, script }, &mut beside).map(Ended::Run) }
+        Some(runs) => { try_runs(rt, task, circuit, script, &mut beside, runs).map(Ended::Runs) }
+    }
 }

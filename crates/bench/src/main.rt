@@ -2,19 +2,22 @@
 #![tactic(auto)]
 
 use answer::{Title, TurnedAway};
-use circuit::{Circuit, Numbers, Refusal};
+use circuit::{Circuit, Refusal};
 use clocks::Bench;
-use command::{Command, Task};
-use given::{Flaw, Source, read_circuit, read_script};
-use going::{Halt, print_run, try_runs};
+use command::{About, Command, Task, given};
+use given::{Flaw, Source, read_circuit, read_script, taken};
+use going::make_runs;
+use halt::{Halt, Trouble};
 use outcome::{Outcome, TROUBLE};
-use report::{Ended, Why};
+use report::{Ended, OnLine, Why};
 use script::Script;
+use std::io;
 use std::process::ExitCode;
 
 mod command;
 mod given;
 mod going;
+mod halt;
 mod outcome;
 mod progress;
 mod report;
@@ -54,7 +57,7 @@ standard error, and the status is 2 in any case.";
 const VERSION: &str = "bench (muleminute) 0.1.0";
 
 // The flaw of a file is told.
-fn tell(rt: &HostRuntime, path: &str, flaw: &Flaw) -> anyhow::Result<Outcome> {
+fn tell(rt: &HostRuntime, path: &str, flaw: Flaw) -> io::Result<Outcome> {
     eprintln!(rt; "bench: {path}:{flaw}")?;
     Ok(Outcome::Unsound)
 }
@@ -65,106 +68,118 @@ fn tell_refusal(
     name: &[u8],
     bench: Bench<'_>,
     refusal: Refusal,
-) -> anyhow::Result<()> {
+) -> io::Result<Outcome> {
     let why = Why::of(bench, refusal);
     let refused = TurnedAway { refusal, why };
-    match why {
-        Why::Line(line, _) => println!(rt;
-            "{}turned away by {refused} (line {})",
-            Title(name),
-            line.saturating_add(1)
-        )?,
-        _ => println!(rt; "{}turned away by {refused}", Title(name))?,
-    }
-    Ok(())
+    println!(rt; "{}turned away by {refused}{}", Title(name), OnLine(why))?;
+    Ok(Outcome::TurnedAway)
 }
 
-// One run, or as many as are asked for.
+// Why a run did not come to its end.
+fn tell_halt(
+    rt: &HostRuntime,
+    task: &Task<'_>,
+    name: &[u8],
+    bench: Bench<'_>,
+    halt: Halt,
+) -> Result<Outcome, Trouble> {
+    match halt {
+        Halt::Refused(refusal) => Ok(tell_refusal(rt, name, bench, refusal)?),
+        Halt::Unwritten(e) => Ok(tell(rt, task.vcd.unwrap_or(""), Flaw::Unusable(e))?),
+        Halt::Trouble(trouble) => Err(trouble),
+    }
+}
+
+// What one run, or some, came to.
+fn tell_end(rt: &HostRuntime, ended: Ended) -> io::Result<Outcome> {
+    println!(rt; "{ended}")?;
+    Ok(ended.outcome())
+}
+
+// The circuit goes with what it is told.
 fn go(
     rt: &HostRuntime,
-    task: &Task,
+    task: &Task<'_>,
     name: &[u8],
     circuit: Circuit<'_>,
-    mut script: Script,
-) -> anyhow::Result<Outcome> {
-    let ended = match task.trials {
-        None => print_run(
-            rt,
-            task,
-            Bench {
-                circuit,
-                script: &script,
-            },
-        )
-        .map(Ended::Run),
-        Some(runs) => try_runs(rt, task, circuit, &mut script, runs).map(Ended::Runs),
-    };
-    match ended {
-        Ok(ended) => {
-            println!(rt; "{ended}")?;
-            Ok(ended.outcome())
-        }
-        Err(Halt::Failed(e)) => Err(e),
-        Err(Halt::Refused(refusal)) => {
-            tell_refusal(
-                rt,
-                name,
-                Bench {
-                    circuit,
-                    script: &script,
-                },
-                refusal,
-            )?;
-            Ok(Outcome::TurnedAway)
-        }
+    script: &mut Script,
+) -> Result<Outcome, Trouble> {
+    match make_runs(rt, task, circuit, script) {
+        Ok(ended) => Ok(tell_end(rt, ended)?),
+        Err(halt) => tell_halt(rt, task, name, Bench { circuit, script }, halt),
     }
 }
 
-fn bench(rt: &HostRuntime, task: &Task) -> anyhow::Result<Outcome> {
-    let path = task.circuit.as_str();
-    let Source { text, draft } = match read_circuit(rt, path) {
-        Ok(source) => source,
-        Err(flaw) => return tell(rt, path, &flaw),
-    };
-    if let Some(line) = answer::turned_away(rt.alloc(), &draft, &text, 0)? {
-        rt.write_all(line.as_bytes())?;
-        return Ok(Outcome::TurnedAway);
-    }
-    let Ok(circuit) = Circuit::try_from(Numbers {
-        gates: &draft.gates,
-        registers: &draft.registers,
-        times: &draft.times,
-    }) else {
-        unreachable!()
-    };
-    let path = task.delays.as_str();
-    match read_script(rt, path, circuit) {
-        Ok(script) if task.trials.is_some() && script.seed.is_none() => tell(
-            rt,
-            path,
-            &Flaw::NoRandom,
-        ),
-        Ok(script) => go(rt, task, &draft.name, circuit, script),
-        Err(flaw) => tell(rt, path, &flaw),
+// What is told to the circuit is read, and it goes.
+fn read_and_go(
+    rt: &HostRuntime,
+    task: &Task<'_>,
+    name: &[u8],
+    circuit: Circuit<'_>,
+) -> Result<Outcome, Trouble> {
+    match read_script(rt, task, circuit) {
+        Ok(mut script) => go(rt, task, name, circuit, &mut script),
+        Err(flaw) => Ok(tell(rt, task.delays, flaw)?),
     }
 }
 
-fn run(rt: &HostRuntime) -> anyhow::Result<ExitCode> {
-    match Command::read(rt)? {
-        Command::Help => {
-            println!(rt; "{USAGE}\n\n{HELP}")?;
-            Ok(ExitCode::SUCCESS)
-        }
-        Command::Version => {
-            println!(rt; "{VERSION}")?;
-            Ok(ExitCode::SUCCESS)
-        }
-        Command::Usage => {
-            eprintln!(rt; "{USAGE}")?;
-            Ok(ExitCode::from(TROUBLE))
-        }
+// The line on which a circuit that was read is turned away.
+fn tell_turned_away(rt: &HostRuntime, line: &str) -> io::Result<Outcome> {
+    rt.write_all(line.as_bytes())?;
+    Ok(Outcome::TurnedAway)
+}
+
+// A circuit that was read is turned away, or goes.
+fn answer_for(rt: &HostRuntime, task: &Task<'_>, source: &Source) -> Result<Outcome, Trouble> {
+    let Source { text, draft } = source;
+    match answer::turned_away(rt.alloc(), draft, text, 0)? {
+        Some(line) => Ok(tell_turned_away(rt, &line)?),
+        None => read_and_go(rt, task, &draft.name, taken(draft)),
+    }
+}
+
+fn bench(rt: &HostRuntime, task: &Task<'_>) -> Result<Outcome, Trouble> {
+    match read_circuit(rt, task.circuit) {
+        Ok(source) => answer_for(rt, task, &source),
+        Err(flaw) => Ok(tell(rt, task.circuit, flaw)?),
+    }
+}
+
+fn help(rt: &HostRuntime) -> io::Result<ExitCode> {
+    println!(rt; "{USAGE}\n\n{HELP}")?;
+    Ok(ExitCode::SUCCESS)
+}
+
+fn version(rt: &HostRuntime) -> io::Result<ExitCode> {
+    println!(rt; "{VERSION}")?;
+    Ok(ExitCode::SUCCESS)
+}
+
+fn usage(rt: &HostRuntime) -> io::Result<ExitCode> {
+    eprintln!(rt; "{USAGE}")?;
+    Ok(ExitCode::from(TROUBLE))
+}
+
+// Tells about the program.
+fn tell_about(rt: &HostRuntime, about: About) -> io::Result<ExitCode> {
+    match about {
+        About::Help => help(rt),
+        About::Version => version(rt),
+        About::Usage => usage(rt),
+    }
+}
+
+// Does what the arguments ask for.
+fn obey(rt: &HostRuntime, args: &[String]) -> Result<ExitCode, Trouble> {
+    match Command::read(rt, args)? {
+        Command::Tell(about) => Ok(tell_about(rt, about)?),
         Command::Bench(task) => Ok(bench(rt, &task)?.status(task.exit_zero)),
     }
+}
+
+fn run(rt: &HostRuntime) -> Result<ExitCode, Trouble> {
+    let args = given(rt)?;
+    obey(rt, &args)
 }
 
 fn main(rt: HostRuntime) -> ExitCode {

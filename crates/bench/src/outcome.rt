@@ -5,7 +5,7 @@ use std::process::ExitCode;
 pub(crate) const TROUBLE: u8 = 2;
 
 // From best to worst.
-#[derive(Clone, Copy, PartialEq, Debug)]
+#[derive(Clone, Copy)]
 pub(crate) enum Outcome {
     // Every register was as drawn after every cycle.
     AsDrawn,

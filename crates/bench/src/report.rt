@@ -20,22 +20,41 @@ pub(crate) struct Cycle<'a, 'b> {
 
 impl fmt::Display for Cycle<'_, '_> {
     fn fmt<W: fmt::Write>(&self, f: &mut fmt::Formatter<W>) -> fmt::Result {
-        write!(f, "{}: ", self.number)?;
         let (held, drawn) = (self.watch.held(), self.watch.drawn());
-        for bit in held {
-            f.write_char(digit(*bit))?;
-        }
+        write!(f, "{}: ", self.number)?;
+        put_bits(f, held)?;
         if held == drawn {
             return f.write_str(", as drawn");
         }
-        for (r, (held, drawn)) in held.iter().zip(drawn).enumerate() {
-            if held != drawn {
-                let (is, should) = (digit(*held), digit(*drawn));
-                write!(f, ", register {r} is {is} and drawn {should}")?;
-            }
-        }
-        Ok(())
+        put_others(f, held, drawn)
     }
+}
+
+fn put_bits<W: fmt::Write>(f: &mut fmt::Formatter<W>, bits: &[bool]) -> fmt::Result {
+    for bit in bits {
+        f.write_char(digit(*bit))?;
+    }
+    Ok(())
+}
+
+// A register that holds another bit than is drawn.
+fn put_other<W: fmt::Write>(f: &mut fmt::Formatter<W>, r: usize, held: bool) -> fmt::Result {
+    let (is, should) = (digit(held), digit(!held));
+    write!(f, ", register {r} is {is} and drawn {should}")
+}
+
+// Each register that holds another bit than is drawn.
+fn put_others<W: fmt::Write>(
+    f: &mut fmt::Formatter<W>,
+    held: &[bool],
+    drawn: &[bool],
+) -> fmt::Result {
+    for (r, (held, drawn)) in held.iter().zip(drawn).enumerate() {
+        if held != drawn {
+            put_other(f, r, *held)?;
+        }
+    }
+    Ok(())
 }
 
 // Where a run was first seen to differ from the drawing.
@@ -97,22 +116,33 @@ impl fmt::Display for Tried {
     fn fmt<W: fmt::Write>(&self, f: &mut fmt::Formatter<W>) -> fmt::Result {
         let runs = Count(self.made, "run");
         let cycles = Count(self.cycles, "cycle");
-        match self.first_wrong {
-            None => write!(f, "{runs} of {cycles}, as drawn")?,
-            Some((seed, difference)) => write!(
-                f,
-                "{runs} of {cycles}, {} not as drawn: first with random {seed}, {difference}",
-                self.wrong
-            )?,
-        }
-        match self.first_not_made {
-            None => Ok(()),
-            Some(seed) => write!(
-                f,
-                "; {} not made, as a told clock comes too soon: first with random {seed}",
-                self.not_made
-            ),
-        }
+        write!(f, "{runs} of {cycles}, ")?;
+        self.put_wrong(f)?;
+        self.put_not_made(f)
+    }
+}
+
+impl Tried {
+    fn put_wrong<W: fmt::Write>(&self, f: &mut fmt::Formatter<W>) -> fmt::Result {
+        let Some((seed, difference)) = self.first_wrong else {
+            return f.write_str("as drawn");
+        };
+        write!(
+            f,
+            "{} not as drawn: first with random {seed}, {difference}",
+            self.wrong
+        )
+    }
+
+    fn put_not_made<W: fmt::Write>(&self, f: &mut fmt::Formatter<W>) -> fmt::Result {
+        let Some(seed) = self.first_not_made else {
+            return Ok(());
+        };
+        write!(
+            f,
+            "; {} not made, as a told clock comes too soon: first with random {seed}",
+            self.not_made
+        )
     }
 }
 
@@ -138,8 +168,8 @@ impl Ended {
 impl fmt::Display for Ended {
     fn fmt<W: fmt::Write>(&self, f: &mut fmt::Formatter<W>) -> fmt::Result {
         match self {
-            Ended::Run(found) => write!(f, "{found}"),
-            Ended::Runs(tried) => write!(f, "{tried}"),
+            Ended::Run(found) => found.fmt(f),
+            Ended::Runs(tried) => tried.fmt(f),
         }
     }
 }
@@ -169,12 +199,25 @@ impl Why {
 impl fmt::Display for Why {
     fn fmt<W: fmt::Write>(&self, f: &mut fmt::Formatter<W>) -> fmt::Result {
         match self {
-            Why::Line(_, Some(misfit)) => write!(f, "{misfit}"),
+            Why::Line(_, Some(misfit)) => misfit.fmt(f),
             Why::Line(_, None) => f.write_str("this clock does not come after the one before it"),
             Why::Period => f.write_str("the bench makes no run with a period of 0"),
             Why::Moment => f.write_str(
                 "the bench makes no run with a setup and a latest output time of 0",
             ),
+        }
+    }
+}
+
+// Where the reason stands that a circuit does not go with what it is told, if it stands on a line.
+#[derive(Clone, Copy)]
+pub(crate) struct OnLine(pub(crate) Why);
+
+impl fmt::Display for OnLine {
+    fn fmt<W: fmt::Write>(&self, f: &mut fmt::Formatter<W>) -> fmt::Result {
+        match self.0 {
+            Why::Line(line, _) => write!(f, " (line {})", line.saturating_add(1)),
+            Why::Period | Why::Moment => Ok(()),
         }
     }
 }

@@ -1,7 +1,7 @@
 // A run as a value change dump, as viewers of waveforms read it.
-use anyhow::anyhow;
+use crate::halt::Halt;
 use clocks::{Bench, Ticks};
-use std::alloc::AllocError;
+use std::alloc::{AllocError, Global};
 use std::fmt::Write as _;
 use std::fs::File;
 use std::io::Write;
@@ -45,6 +45,13 @@ fn declare(text: &mut String, kind: &str, variable: Variable) -> Result<(), Allo
     Ok(())
 }
 
+// What is told of a register beside its signal.
+fn declare_register(text: &mut String, r: usize) -> Result<(), AllocError> {
+    declare(text, "event", Variable("clock_r", r))?;
+    declare(text, "wire", Variable("any_r", r))?;
+    declare(text, "event", Variable("lost_r", r))
+}
+
 // What stands before the first moment.
 fn declare_all(text: &mut String, registers: usize, signals: usize) -> Result<(), AllocError> {
     text.push_str(HEADER)?;
@@ -52,9 +59,7 @@ fn declare_all(text: &mut String, registers: usize, signals: usize) -> Result<()
         declare(text, "wire", signal(k, registers))?;
     }
     for r in 0..registers {
-        declare(text, "event", Variable("clock_r", r))?;
-        declare(text, "wire", Variable("any_r", r))?;
-        declare(text, "event", Variable("lost_r", r))?;
+        declare_register(text, r)?;
     }
     text.push_str(FOOTER)
 }
@@ -73,6 +78,12 @@ fn change(
     Ok(())
 }
 
+// Something that happens at a moment.
+fn happens(text: &mut String, event: Variable) -> Result<(), AllocError> {
+    writeln!(text, "1{event}")?;
+    Ok(())
+}
+
 // What is kept of a register between moments.
 #[derive(Clone, Copy)]
 struct Register {
@@ -80,82 +91,129 @@ struct Register {
     ticks: Ticks,
 }
 
-// A dump that is being written: what each signal showed last, and what is kept of each register.
-#[derive(Drop)]
-pub(crate) struct Dump {
-    path: String,
-    file: File,
-    text: String,
-    // The changes of the moment that is being written.
-    changes: String,
-    shown: Vec<Option<bool>>,
-    registers: Vec<Register>,
-}
-
-impl Dump {
-    // The beginning of the dump of a run.
-    pub(crate) fn new(rt: &HostRuntime, path: &str, bench: Bench<'_>) -> anyhow::Result<Dump> {
-        let heap = rt.alloc();
-        let file = fs::create(rt, path).map_err(|e| anyhow!("{path}: {e}"))?;
-        let registers = bench.circuit.register_count();
-        let signals = bench.circuit.signal_count();
-        let mut text = String::new(heap);
-        declare_all(&mut text, registers, signals)?;
-        let mut kept = Vec::new(heap);
-        for r in 0..registers {
-            kept.push(Register {
-                any: None,
-                ticks: Ticks::new(bench, r),
-            })?;
-        }
-        Ok(Dump {
-            path: String::from_str(heap, path)?,
-            file,
-            text,
-            changes: String::new(heap),
-            shown: vec![in heap; None; signals]?,
-            registers: kept,
-        })
-    }
-
-    // The changes of a moment that has just gone.
-    fn put_changes(
+impl Register {
+    // What changes for register `r` at a moment that has just gone.
+    fn put(
         &mut self,
+        text: &mut String,
+        r: usize,
         bench: Bench<'_>,
         trial: &Trial<'_>,
         t: u64,
     ) -> Result<(), AllocError> {
+        if self.ticks.comes(bench, t) {
+            happens(text, Variable("clock_r", r))?;
+        }
+        let any = trial.shows_anything(r);
+        change(text, &mut self.any, any, Variable("any_r", r))?;
+        if trial.takes_anything(r) {
+            happens(text, Variable("lost_r", r))?;
+        }
+        Ok(())
+    }
+}
+
+// What each signal showed last, and what is kept of each register.
+#[derive(Drop)]
+struct Kept {
+    shown: Vec<Option<bool>>,
+    registers: Vec<Register>,
+}
+
+// What is kept of each register at the beginning.
+fn kept_of(heap: Global, bench: Bench<'_>) -> Result<Vec<Register>, AllocError> {
+    let mut kept = Vec::new(heap);
+    for r in 0..bench.circuit.register_count() {
+        kept.push(Register {
+            any: None,
+            ticks: Ticks::new(bench, r),
+        })?;
+    }
+    Ok(kept)
+}
+
+impl Kept {
+    fn new(heap: Global, bench: Bench<'_>) -> Result<Kept, AllocError> {
+        let shown = vec![in heap; None; bench.circuit.signal_count()]?;
+        let registers = kept_of(heap, bench)?;
+        Ok(Kept { shown, registers })
+    }
+
+    // The signals that changed at a moment that has just gone.
+    fn put_signals(&mut self, text: &mut String, trial: &Trial<'_>) -> Result<(), AllocError> {
         let registers = self.registers.len();
         for (k, shown) in self.shown.iter_mut().enumerate() {
-            change(
-                &mut self.changes,
-                shown,
-                trial.signal(k),
-                signal(k, registers),
-            )?;
+            change(text, shown, trial.signal(k), signal(k, registers))?;
         }
-        for (r, kept) in self.registers.iter_mut().enumerate() {
-            if kept.ticks.comes(bench, t) {
-                writeln!(self.changes, "1{}", Variable("clock_r", r))?;
-            }
-            let any = trial.shows_anything(r);
-            change(&mut self.changes, &mut kept.any, any, Variable("any_r", r))?;
-            if trial.takes_anything(r) {
-                writeln!(self.changes, "1{}", Variable("lost_r", r))?;
-            }
+        Ok(())
+    }
+
+    // The changes of moment `t`, which has just gone.
+    fn put(
+        &mut self,
+        text: &mut String,
+        bench: Bench<'_>,
+        trial: &Trial<'_>,
+        t: u64,
+    ) -> Result<(), AllocError> {
+        self.put_signals(text, trial)?;
+        for (r, register) in self.registers.iter_mut().enumerate() {
+            register.put(text, r, bench, trial, t)?;
+        }
+        Ok(())
+    }
+}
+
+// A dump that is being written.
+#[derive(Drop)]
+pub(crate) struct Dump {
+    file: File,
+    text: String,
+    // The changes of the moment that is being written.
+    changes: String,
+    kept: Kept,
+}
+
+// The beginning of the text of a dump.
+fn beginning(heap: Global, bench: Bench<'_>) -> Result<String, AllocError> {
+    let mut text = String::new(heap);
+    let circuit = bench.circuit;
+    declare_all(&mut text, circuit.register_count(), circuit.signal_count())?;
+    Ok(text)
+}
+
+impl Dump {
+    // The beginning of the dump of a run.
+    pub(crate) fn new(rt: &HostRuntime, path: &str, bench: Bench<'_>) -> Result<Dump, Halt> {
+        let heap = rt.alloc();
+        let file = match fs::create(rt, path) {
+            Ok(file) => file,
+            Err(e) => return Err(Halt::Unwritten(e)),
+        };
+        let text = beginning(heap, bench)?;
+        let kept = Kept::new(heap, bench)?;
+        Ok(Dump {
+            file,
+            text,
+            changes: String::new(heap),
+            kept,
+        })
+    }
+
+    // Moment `t`, which has just gone.
+    fn put(&mut self, bench: Bench<'_>, trial: &Trial<'_>, t: u64) -> Result<(), AllocError> {
+        self.changes.clear();
+        self.kept.put(&mut self.changes, bench, trial, t)?;
+        if !self.changes.is_empty() {
+            writeln!(self.text, "#{t}")?;
+            self.text.push_str(&self.changes)?;
         }
         Ok(())
     }
 
     // The moment that has just gone.
-    pub(crate) fn moment(&mut self, bench: Bench<'_>, trial: &Trial<'_>) -> anyhow::Result<()> {
-        let t = trial.moment().saturating_sub(1);
-        self.changes.clear();
-        self.put_changes(bench, trial, t)?;
-        if !self.changes.is_empty() {
-            writeln!(self.text, "#{t}")?;
-            self.text.push_str(&self.changes)?;
-        }
+    pub(crate) fn moment(&mut self, bench: Bench<'_>, trial: &Trial<'_>) -> Result<(), Halt> {
+        self.put(bench, trial, trial.moment().saturating_sub(1))?;
         if self.text.len() > COLLECTED {
             self.flush()?;
         }
@@ -163,16 +221,19 @@ impl Dump {
     }
 
     // The end of the run.
-    pub(crate) fn finish(&mut self, trial: &Trial<'_>) -> anyhow::Result<()> {
+    pub(crate) fn finish(&mut self, trial: &Trial<'_>) -> Result<(), Halt> {
         writeln!(self.text, "#{}", trial.moment())?;
         self.flush()
     }
 
     // Writes out what was collected.
-    fn flush(&mut self) -> anyhow::Result<()> {
-        let written = self.file.write_all(self.text.as_bytes());
-        written.map_err(|e| anyhow!("{}: {e}", self.path))?;
-        self.text.clear();
-        Ok(())
+    fn flush(&mut self) -> Result<(), Halt> {
+        match self.file.write_all(self.text.as_bytes()) {
+            Ok(()) => {
+                self.text.clear();
+                Ok(())
+            }
+            Err(e) => Err(Halt::Unwritten(e)),
+        }
     }
 }

@@ -1,22 +1,18 @@
 // What the command line asks for.
-use std::env;
-use std::env::Env;
+use std::{env, io};
 
-#[derive(Drop)]
+#[derive(Clone, Copy)]
 pub(crate) enum Command {
     Help,
     Version,
     // Nothing that can be done, so how it is asked for is told.
     Usage,
-    Pass {
-        files: Vec<String>,
-        form: Form,
-        exit_zero: bool,
-    },
+    // The files, which are the arguments that are no options, are passed.
+    Pass { form: Form, exit_zero: bool },
 }
 
 // What is told of each circuit.
-#[derive(Clone, Copy, PartialEq, Eq)]
+#[derive(Clone, Copy, PartialEq)]
 pub(crate) enum Form {
     // Its word.
     Words,
@@ -43,47 +39,99 @@ impl Form {
     }
 }
 
-fn is_option(arg: &str) -> bool {
+pub(crate) fn is_option(arg: &str) -> bool {
     arg.starts_with("-") && arg != "-"
+}
+
+// Why an option cannot be followed.
+#[derive(Clone, Copy)]
+enum Wrong {
+    Unknown,
+    Excluded,
+}
+
+// An option that cannot be followed is told.
+fn refuse(rt: &HostRuntime, option: &str, wrong: Wrong) -> io::Result<Command> {
+    match wrong {
+        Wrong::Unknown => eprintln!(rt; "pass: unknown option {option}")?,
+        Wrong::Excluded => eprintln!(rt;
+            "pass: --json, --paths, --period and --report exclude one another"
+        )?,
+    }
+    Ok(Command::Usage)
+}
+
+// What was read so far.
+#[derive(Clone, Copy)]
+struct Asked {
+    // What is asked for in place of passing files.
+    instead: Option<Command>,
+    // Whether there is a file.
+    any: bool,
+    form: Option<Form>,
+    exit_zero: bool,
+}
+
+impl Asked {
+    fn take_form(&mut self, option: &str) -> Result<(), Wrong> {
+        let Some(told) = Form::of(option) else {
+            return Err(Wrong::Unknown);
+        };
+        if self.form.unwrap_or(told) != told {
+            return Err(Wrong::Excluded);
+        }
+        self.form = Some(told);
+        Ok(())
+    }
+
+    // One argument more.
+    fn take(&mut self, arg: &str) -> Result<(), Wrong> {
+        match arg {
+            "--help" => self.instead = Some(Command::Help),
+            "--version" => self.instead = self.instead.or(Some(Command::Version)),
+            "--exit-zero" => self.exit_zero = true,
+            option if is_option(option) => return self.take_form(option),
+            _ => self.any = true,
+        }
+        Ok(())
+    }
+
+    fn command(self) -> Command {
+        match self.instead {
+            Some(command) => command,
+            None if !self.any => Command::Usage,
+            None => Command::Pass {
+                form: self.form.unwrap_or(Form::Words),
+                exit_zero: self.exit_zero,
+            },
+        }
+    }
+}
+
+// The arguments of the command line.
+pub(crate) fn arguments(rt: &HostRuntime) -> anyhow::Result<Vec<String>> {
+    let mut all = Vec::new(rt.alloc());
+    for arg in env::args(rt)?.skip(1) {
+        all.push(arg)?;
+    }
+    Ok(all)
 }
 
 impl Command {
     // `--help` goes before `--version`, and both go before all that can be read. An unknown option, or one that another
     // excludes, is told, and nothing after it is read.
-    pub(crate) fn read(rt: &(impl Env + AllocGlobal + Eprint)) -> anyhow::Result<Command> {
-        let mut asked = None;
-        let mut exit_zero = false;
-        let mut form = None;
-        let mut files = Vec::new(rt.alloc());
-        for arg in env::args(rt)?.skip(1) {
-            match arg.as_str() {
-                "--help" => asked = Some(Command::Help),
-                "--version" => asked = asked.or(Some(Command::Version)),
-                "--exit-zero" => exit_zero = true,
-                option if is_option(option) => {
-                    let Some(told) = Form::of(option) else {
-                        eprintln!(rt; "pass: unknown option {option}")?;
-                        return Ok(Command::Usage);
-                    };
-                    if form.is_some_and(|form| form != told) {
-                        eprintln!(rt;
-                            "pass: --json, --paths, --period and --report exclude one another"
-                        )?;
-                        return Ok(Command::Usage);
-                    }
-                    form = Some(told);
-                }
-                _ => files.push(arg)?,
+    pub(crate) fn read(rt: &HostRuntime, args: &[String]) -> io::Result<Command> {
+        let mut asked = Asked {
+            instead: None,
+            any: false,
+            form: None,
+            exit_zero: false,
+        };
+        for arg in args {
+            if let Err(wrong) = asked.take(arg.as_str()) {
+                return refuse(rt, arg.as_str(), wrong);
             }
         }
-        if files.is_empty() {
-            return Ok(asked.unwrap_or(Command::Usage));
-        }
-        let form = form.unwrap_or(Form::Words);
-        Ok(asked.unwrap_or(Command::Pass {
-            files,
-            form,
-            exit_zero,
-        }))
+        Ok(asked.command())
     }
 }

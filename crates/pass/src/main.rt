@@ -1,22 +1,14 @@
 // pass: passes the circuits of files, or names what stands in their way.
 #![tactic(auto)]
 
-use answer::Refused;
-use as_json::Place;
-use circuit::{Circuit, Numbers};
-use command::{Command, Form};
-use fields::{Expected, Fault};
-use input::Feed;
-use std::alloc::{AllocError, Global};
-use std::fmt::Write;
-use std::io::Read;
+use command::{Command, Form, arguments, is_option};
+use passing::{Flaw, pass_reader};
 use std::process::ExitCode;
-use std::rt::Files;
-use std::{fmt, fs, io};
-use text::Draft;
-use writing::Unwritten;
+use std::{fs, io};
 
 mod command;
+mod passing;
+mod source;
 
 const USAGE: &str =
     "usage: pass [--json | --paths | --period | --report] [--exit-zero] [--help] [--version] FILE...";
@@ -59,9 +51,6 @@ const VERSION: &str = "pass (muleminute) 0.1.0";
 // The status where something could not be done.
 const TROUBLE: u8 = 2;
 
-// What is said is written out once it has more bytes than this.
-const COLLECTED: usize = 60_000;
-
 // What was found, from best to worst.
 #[derive(Clone, Copy, PartialEq, Eq, PartialOrd, Ord)]
 enum Outcome {
@@ -92,293 +81,71 @@ impl Outcome {
     }
 }
 
-// Why not all of a file could be answered for.
-#[derive(Drop)]
-enum Flaw {
-    Unreadable(io::Error),
-    Fault(Fault),
-    NoCircuit,
-    Memory,
-}
-
-// What stands behind the file's name and a colon.
-impl fmt::Display for Flaw {
-    fn fmt<W: fmt::Write>(&self, f: &mut fmt::Formatter<W>) -> fmt::Result {
-        match self {
-            Flaw::Unreadable(e) => write!(f, " {e}"),
-            Flaw::Fault(fault) => write!(f, "{fault}"),
-            Flaw::NoCircuit => f.write_str(" no circuit: nothing was checked"),
-            Flaw::Memory => f.write_str(" memory is short"),
-        }
+// The circuits of a file.
+fn pass_file(rt: &HostRuntime, form: Form, path: &str) -> Result<Outcome, Flaw> {
+    if path == "-" {
+        return pass_reader(rt, form, path, rt.reader());
+    }
+    match fs::open(rt, path) {
+        Ok(file) => pass_reader(rt, form, path, file),
+        Err(e) => Err(Flaw::Unreadable(e)),
     }
 }
 
-// Writes out what was collected.
-fn flush(rt: &impl Print, out: &mut String) -> io::Result<()> {
-    rt.write_all(out.as_bytes())?;
-    out.clear();
-    Ok(())
+// Why not all of a file could be answered for is told.
+fn tell(rt: &HostRuntime, path: &str, flaw: Flaw) -> io::Result<Outcome> {
+    eprintln!(rt; "pass: {path}:{flaw}")?;
+    Ok(Outcome::Unsound)
 }
 
-// Why a circuit's report is not written, as an error.
-fn unwritten(e: Unwritten) -> anyhow::Error {
-    anyhow::Error::msg(match e {
-        Unwritten::Name => "a name that could not be read again",
-        Unwritten::Memory => "memory is short",
-    })
-}
-
-// A circuit that was read: the name of its file, what it was read from, and the number of lines before that.
-#[derive(Clone, Copy)]
-struct Source<'a> {
-    file: &'a str,
-    draft: &'a Draft,
-    text: &'a [u8],
-    before: usize,
-}
-
-impl<'a> Source<'a> {
-    fn place(self) -> Place<'a> {
-        Place {
-            file: self.file,
-            name: &self.draft.name,
-            line: self.draft.line.saturating_add(self.before),
-        }
-    }
-
-    // The circuit, or why it is turned away.
-    fn circuit(self) -> Result<Circuit<'a>, Refused> {
-        let draft = self.draft;
-        if let Some(refused) = answer::refused(draft, self.text, self.before) {
-            return Err(refused);
-        }
-        let Ok(circuit) = Circuit::try_from(Numbers {
-            gates: &draft.gates,
-            registers: &draft.registers,
-            times: &draft.times,
-        }) else {
-            unreachable!()
-        };
-        Ok(circuit)
-    }
-
-    // All that is found, as JSON.
-    fn json(self, heap: Global) -> Result<String, AllocError> {
-        match self.circuit() {
-            Ok(circuit) => as_json::judged(heap, self.place(), circuit),
-            Err(refused) => as_json::turned_away(heap, self.place(), refused),
-        }
-    }
-
-    // The report on it; or, where it is turned away, the line that says so as a comment.
-    fn report(self, heap: Global, line: &str, out: &mut String) -> anyhow::Result<()> {
-        match self.circuit() {
-            Ok(circuit) => {
-                out.push_str(&report::write(heap, &self.draft.name, circuit).map_err(unwritten)?)?;
-            }
-            Err(_) => write!(out, "# {line}")?,
-        }
-        Ok(())
-    }
-
-    // What is told of it, and what was found.
-    fn tell(self, heap: Global, form: Form, out: &mut String) -> anyhow::Result<Outcome> {
-        let Source {
-            draft,
-            text,
-            before,
-            ..
-        } = self;
-        if form == Form::Period {
-            let paced = answer::period(heap, draft, text, before)?;
-            out.push_str(&paced.line)?;
-            return Ok(Outcome::of(paced.period.is_some()));
-        }
-        let said = answer::answer(heap, draft, text, before)?;
-        match form {
-            Form::Json => writeln!(out, "{}", self.json(heap)?)?,
-            Form::Report => self.report(heap, &said.line, out)?,
-            Form::Words | Form::Paths | Form::Period => out.push_str(&said.line)?,
-        }
-        if form == Form::Paths {
-            if let Ok(circuit) = self.circuit() {
-                path_table::put(out, circuit)?;
-            }
-        }
-        Ok(Outcome::of(said.margins.is_some()))
-    }
-}
-
-// What the lines at hand begin with.
-#[derive(Clone, Copy)]
-enum Found {
-    // A circuit, which was answered for, of so many bytes and lines.
-    Circuit {
-        bytes: usize,
-        lines: usize,
-        outcome: Outcome,
-    },
-    // A circuit that goes on behind them.
-    Cut,
-    // No circuit.
-    Nothing,
-}
-
-// Looks at the lines at hand, before which there were so many others. The reader counts lines from 1 in what is handed to
-// it, so those before are added here. What is said is put behind `out` as a whole or not at all.
-fn look<R: Read + Drop>(
-    heap: Global,
-    form: Form,
-    file: &str,
-    feed: &Feed<R>,
-    before: usize,
-    out: &mut String,
-) -> Result<Found, Flaw> {
-    let lines = feed.lines();
-    let read = match text::read(heap, lines) {
-        Ok(Some(read)) => read,
-        Ok(None) => return Ok(Found::Nothing),
-        Err(fault) if fault.expected == Expected::End && !feed.ended() => return Ok(Found::Cut),
-        Err(Fault { line, expected }) => {
-            let line = line.saturating_add(before);
-            return Err(Flaw::Fault(Fault { line, expected }));
-        }
-    };
-    let source = Source {
-        file,
-        draft: &read.draft,
-        text: lines,
-        before,
-    };
-    // All that can fail is memory.
-    let mut said = String::new(heap);
-    let outcome = source
-        .tell(heap, form, &mut said)
-        .map_err(|_| Flaw::Memory)?;
-    out.push_str(&said).map_err(|_| Flaw::Memory)?;
-    Ok(Found::Circuit {
-        bytes: lines.len().saturating_sub(read.rest.text.len()),
-        lines: read.rest.number.saturating_sub(1),
-        outcome,
-    })
-}
-
-// How many lines end in a text.
-fn newlines(text: &[u8]) -> usize {
-    text.iter().filter(|b| **b == b'\n').count()
-}
-
-// Passes over lines that have no circuit, of which there were so many before; answers how many there are now.
-fn skip_all<R: Read + Drop>(feed: &mut Feed<R>, before: usize) -> usize {
-    let lines = feed.lines();
-    let (bytes, count) = (lines.len(), newlines(lines));
-    feed.skip(bytes);
-    before.saturating_add(count)
-}
-
-// The circuits of a text, one after another. No more of it is kept than the largest of them takes, some times over.
-fn pass_text<R: Read + Drop>(
-    rt: &(impl Print + AllocGlobal),
-    form: Form,
-    file: &str,
-    feed: &mut Feed<R>,
-    out: &mut String,
-) -> anyhow::Result<Result<Outcome, Flaw>> {
-    let mut before: usize = 0;
-    let mut worst = None;
-    for _ in 0..u64::MAX {
-        match look(rt.alloc(), form, file, feed, before, out) {
-            Err(flaw) => return Ok(Err(flaw)),
-            Ok(
-                Found::Circuit {
-                    bytes,
-                    lines,
-                    outcome,
-                },
-            ) => {
-                worst = worst.max(Some(outcome));
-                before = before.saturating_add(lines);
-                feed.skip(bytes);
-                if out.len() > COLLECTED {
-                    flush(rt, out)?;
-                }
-                continue;
-            }
-            Ok(Found::Nothing) if feed.ended() => break,
-            Ok(Found::Nothing) => before = skip_all(feed, before),
-            Ok(Found::Cut) => {}
-        }
-        // What was said is not held back while more is waited for.
-        flush(rt, out)?;
-        if let Err(e) = feed.more() {
-            return Ok(Err(Flaw::Unreadable(e)));
-        }
-    }
-    Ok(worst.ok_or(Flaw::NoCircuit))
-}
-
-// The circuits of a reader.
-fn pass_reader<R: Read + Drop>(
-    rt: &(impl Print + AllocGlobal),
-    form: Form,
-    path: &str,
-    reader: R,
-) -> anyhow::Result<Result<Outcome, Flaw>> {
-    let mut feed = Feed::new(rt.alloc(), reader);
-    let mut out = String::new(rt.alloc());
-    let outcome = pass_text(rt, form, path, &mut feed, &mut out)?;
-    flush(rt, &mut out)?;
-    Ok(outcome)
-}
-
-fn pass_file(
-    rt: &(impl Files + Input + Print + Eprint + AllocGlobal),
-    form: Form,
-    path: &str,
-) -> anyhow::Result<Outcome> {
-    let outcome = if path == "-" {
-        pass_reader(rt, form, path, rt.reader())?
-    } else {
-        match fs::open(rt, path) {
-            Ok(file) => pass_reader(rt, form, path, file)?,
-            Err(e) => Err(Flaw::Unreadable(e)),
-        }
-    };
-    match outcome {
+// What was found in a file.
+fn outcome_of(rt: &HostRuntime, form: Form, path: &str) -> io::Result<Outcome> {
+    match pass_file(rt, form, path) {
         Ok(outcome) => Ok(outcome),
-        Err(flaw) => {
-            eprintln!(rt; "pass: {path}:{flaw}")?;
-            Ok(Outcome::Unsound)
+        Err(Flaw::Untold(e)) => Err(e),
+        Err(flaw) => tell(rt, path, flaw),
+    }
+}
+
+// The worst of what was found in the files.
+fn pass_files(rt: &HostRuntime, form: Form, args: &[String]) -> io::Result<Outcome> {
+    let mut worst = Outcome::Passed;
+    for arg in args {
+        if !is_option(arg.as_str()) {
+            worst = worst.max(outcome_of(rt, form, arg.as_str())?);
         }
+    }
+    Ok(worst)
+}
+
+fn help(rt: &HostRuntime) -> io::Result<ExitCode> {
+    println!(rt; "{USAGE}\n\n{HELP}")?;
+    Ok(ExitCode::SUCCESS)
+}
+
+fn version(rt: &HostRuntime) -> io::Result<ExitCode> {
+    println!(rt; "{VERSION}")?;
+    Ok(ExitCode::SUCCESS)
+}
+
+fn usage(rt: &HostRuntime) -> io::Result<ExitCode> {
+    eprintln!(rt; "{USAGE}")?;
+    Ok(ExitCode::from(TROUBLE))
+}
+
+// Does what the arguments ask for.
+fn obey(rt: &HostRuntime, args: &[String]) -> io::Result<ExitCode> {
+    match Command::read(rt, args)? {
+        Command::Help => help(rt),
+        Command::Version => version(rt),
+        Command::Usage => usage(rt),
+        Command::Pass { form, exit_zero } => Ok(pass_files(rt, form, args)?.status(exit_zero)),
     }
 }
 
 fn run(rt: &HostRuntime) -> anyhow::Result<ExitCode> {
-    match Command::read(rt)? {
-        Command::Help => {
-            println!(rt; "{USAGE}\n\n{HELP}")?;
-            Ok(ExitCode::SUCCESS)
-        }
-        Command::Version => {
-            println!(rt; "{VERSION}")?;
-            Ok(ExitCode::SUCCESS)
-        }
-        Command::Usage => {
-            eprintln!(rt; "{USAGE}")?;
-            Ok(ExitCode::from(TROUBLE))
-        }
-        Command::Pass {
-            files,
-            form,
-            exit_zero,
-        } => {
-            let mut worst = Outcome::Passed;
-            for path in &files {
-                worst = worst.max(pass_file(rt, form, path.as_str())?);
-            }
-            Ok(worst.status(exit_zero))
-        }
-    }
+    let args = arguments(rt)?;
+    Ok(obey(rt, &args)?)
 }
 
 fn main(rt: HostRuntime) -> ExitCode {
