@@ -1,5 +1,5 @@
 -- Arrival times over the numbers that are lent.
-use Rattle.std.specs.Prelude.{◌≡◌, ℕ, ◌+◌, ◌-◌, ◌^◌, ◌<◌, ◌≤◌, ◌⊎◌, List, length, Some, None, slice_index}
+use Rattle.std.specs.Prelude.{◌≡◌, ℕ, ◌+◌, ◌-◌, ◌^◌, ◌<◌, ◌≤◌, ◌⊎◌, List, length, Some, None, min, slice_index}
 use Rattle.circuit.specs.Filled.{Filled}
 use Rattle.circuit.specs.Lent.{gate_count, signal_count, circuit_in, drawn, early, late, output_early, output_late}
 use Rattle.circuit.specs.Refused.{AllOrFirst}
@@ -37,23 +37,46 @@ largest_source = 2 ^ 63
 abbrev pub SmallSource : List ℕ → ℕ → Type 0
 SmallSource times i = slice_index times i ≤ largest_source
 
+-- how many sources the room for latest times begins with: as many as it is longer than there are gates
+abbrev pub sources_of : (gates latest : List ℕ) → ℕ
+sources_of gates latest = length latest - gate_count gates
+
 -- there is room for latest and earliest times over sources, and no source's time is too large
 abbrev pub SourcesFit : (gates registers latest earliest : List ℕ) → Type 0
 SourcesFit gates registers latest earliest =
     (signal_count gates registers ≤ length latest) × (length latest ≤ length earliest)
-    × AllOrFirst (SmallSource latest) (length latest - gate_count gates) None
-    × AllOrFirst (SmallSource earliest) (length latest - gate_count gates) None
+    × AllOrFirst (SmallSource latest) (sources_of gates latest) None
+    × AllOrFirst (SmallSource earliest) (sources_of gates latest) None
 
--- why room for latest and earliest times over sources is refused: too short for the signals; shorter than the other;
--- a source's latest time that is too large, else an earliest one, by its first index
+-- how many of their earliest times there are
+abbrev pub earliest_sources_of : (gates latest earliest : List ℕ) → ℕ
+earliest_sources_of gates latest earliest = min (sources_of gates latest) (length earliest)
+
+-- the first source's time that is too large, by its index through the latest times and then the earliest
+abbrev pub FirstLarge : (gates latest earliest : List ℕ) → ℕ → Type 0
+FirstLarge gates latest earliest p =
+    AllOrFirst (SmallSource latest) (sources_of gates latest) (Some p)
+    ⊎ (AllOrFirst (SmallSource latest) (sources_of gates latest) None
+    × ((i : ℕ) × (p ≡ length latest + i) × AllOrFirst (SmallSource earliest) (earliest_sources_of gates latest earliest) (Some i)))
+
+-- no source's time is too large
+abbrev pub NoneLarge : (gates latest earliest : List ℕ) → Type 0
+NoneLarge gates latest earliest =
+    AllOrFirst (SmallSource latest) (sources_of gates latest) None
+    × AllOrFirst (SmallSource earliest) (earliest_sources_of gates latest earliest) None
+
+-- the length that is needed of room that is too short: for the signals, or as long as the other
+abbrev pub TooShort : (gates registers latest earliest : List ℕ) → ℕ → Type 0
+TooShort gates registers latest earliest n =
+    ((length latest < signal_count gates registers) × (n ≡ signal_count gates registers))
+    ⊎ ((signal_count gates registers ≤ length latest) × (length earliest < length latest) × (n ≡ length latest))
+
+-- why room for latest and earliest times over sources is refused: a source's time that is too large, or else room that is
+-- too short
 abbrev pub SourcesRefused : (gates registers latest earliest : List ℕ) → Refusal → Type 0
 SourcesRefused gates registers latest earliest e =
-    ((length latest < signal_count gates registers) × (e ≡ NoRoom (signal_count gates registers)))
-    ⊎ (((signal_count gates registers ≤ length latest) × (length earliest < length latest) × (e ≡ NoRoom (length latest)))
-    ⊎ ((signal_count gates registers ≤ length latest) × (length latest ≤ length earliest)
-    × ((i : ℕ) × (e ≡ TooLarge i)
-    × (AllOrFirst (SmallSource latest) (length latest - gate_count gates) (Some i)
-    ⊎ (AllOrFirst (SmallSource latest) (length latest - gate_count gates) None × AllOrFirst (SmallSource earliest) (length latest - gate_count gates) (Some i))))))
+    ((p : ℕ) × (e ≡ TooLarge p) × FirstLarge gates latest earliest p)
+    ⊎ (NoneLarge gates latest earliest × ((n : ℕ) × (e ≡ NoRoom n) × TooShort gates registers latest earliest n))
 
 -- room for the times of a circuit's signals that is too short is refused by the length that is needed
 abbrev pub TimesRefused : (gates registers latest earliest : List ℕ) → Refusal → Type 0

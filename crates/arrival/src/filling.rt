@@ -57,20 +57,19 @@ pub fn fill(circuit: Circuit<'_>, latest: &mut [u64], earliest: &mut [u64]) -> R
         (λ e. SourcesRefused circuit.entry.gates.now circuit.entry.registers.now latest.old earliest.old e
         × (latest.new ≡ latest.old) × (earliest.new ≡ earliest.old)) }
 {
-    let gates = circuit.gate_count();
     let needed = circuit.signal_count();
+    let n = latest.len().saturating_sub(circuit.gate_count());
+    if let Some(i) = first_large(latest, n) {
+        return Err(Refusal::TooLarge(i));
+    }
+    if let Some(i) = first_large(earliest, n.min(earliest.len())) {
+        return Err(Refusal::TooLarge(latest.len() + i));
+    }
     if latest.len() < needed {
         return Err(Refusal::NoRoom(needed));
     }
     if earliest.len() < latest.len() {
         return Err(Refusal::NoRoom(latest.len()));
-    }
-    let n = latest.len() - gates;
-    if let Some(i) = first_large(latest, n) {
-        return Err(Refusal::TooLarge(i));
-    }
-    if let Some(i) = first_large(earliest, n) {
-        return Err(Refusal::TooLarge(i));
     }
     fill_gates(circuit, n, latest, earliest);
     Ok(())
@@ -85,8 +84,8 @@ fn fill_registers(circuit: Circuit<'_>, latest: &mut [u64], earliest: &mut [u64]
 {
     for (r, register) in circuit.registers().iter().enumerate() {
         let register = Register::from(*register);
-        latest[r] = u64::from(register.late + circuit.output_late());
-        earliest[r] = u64::from(register.early + circuit.output_early());
+        latest[r] = u64::from(register.late) + u64::from(circuit.output_late());
+        earliest[r] = u64::from(register.early) + u64::from(circuit.output_early());
     }
 }
 

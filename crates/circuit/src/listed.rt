@@ -15,11 +15,12 @@ impl Refusal {
             Refusal::TooLarge(_) => 3,
             Refusal::BadGate(_) => 4,
             Refusal::BadDelay(_) => 5,
-            Refusal::BadRegister(_) | Refusal::NoSignal(_) => 6,
+            Refusal::BadRegister(_) => 6,
             Refusal::BadOutput => 7,
             Refusal::NoRoom(_) => 8,
             Refusal::OutOfBounds(_) => 9,
             Refusal::NoPeriod | Refusal::NoMoment => 10,
+            Refusal::NoSignal(_) => 11,
         }
     }
 

@@ -1,5 +1,5 @@
 -- Laws of `fields`.
-use Rattle.std.proofs.Common.{◌≡◌, ℕ, suc, ◌+◌, ◌-◌, ◌<◌, ◌≤◌, false, List, [], ◌∷◌, ◌++◌, length, take, set, Some, None, Ok, Err, Option, Result, sym, refl, ap, ◌∙◌, arith}
+use Rattle.std.proofs.Common.{◌≡◌, ℕ, suc, ◌+◌, ◌-◌, ◌<◌, ◌≤◌, Bool, false, List, [], ◌∷◌, ◌++◌, length, take, set, Some, None, Ok, Err, Option, Result, sym, refl, ap, ◌∙◌, arith}
 use Rattle.std.proofs.lemmas.List.{take_more_set, take_all, length-set}
 use Rattle.lines.specs.declared.Unread.{Unread}
 use Rattle.lines.specs.declared.Unread.TheVariants.{NoDigit, TooLarge}
@@ -8,11 +8,11 @@ use Rattle.fields.specs.declared.fault.Expected.{Expected}
 use Rattle.fields.specs.Fields.{field, wanted, also, may_be_table, fields}
 
 -- where no table may stand
-pub number_field : (w : List ℕ) (x : ℕ) → number w ≡ Ok x → field false w ≡ Ok x
+pub number_field : (w : List ℕ) (x : ℕ) → number w ≡ Ok x → field false false w ≡ Ok x
 unfolding field
 number_field w x e = rw e
 
-pub no_number : (w : List ℕ) (u : Unread) → number w ≡ Err u → field false w ≡ Err (wanted u)
+pub no_number : (w : List ℕ) (u : Unread) → number w ≡ Err u → field false false w ≡ Err (wanted u)
 unfolding field
 no_number w NoDigit e = rw e
 no_number w TooLarge e = rw e
@@ -39,22 +39,22 @@ alsos_push [] x r = refl
 alsos_push (y ∷ xs) x r = rw (alsos_push xs x r)
 
 -- the first i of n fields of the words ws are in out, and rest has the words after them
-pub record Filled (ws : List (List ℕ)) (c : Option ℕ) (n i : ℕ) (out : List ℕ) (rest : List (List ℕ)) : Type 0 where
+pub record Filled (capped : Bool) (ws : List (List ℕ)) (c : Option ℕ) (n i : ℕ) (out : List ℕ) (rest : List (List ℕ)) : Type 0 where
   pub within : i ≤ n
   pub long : length out ≡ n
-  pub same : fields c 0 n ws ≡ alsos (take i out) (fields c i (n - i) rest)
+  pub same : fields capped c 0 n ws ≡ alsos (take i out) (fields capped c i (n - i) rest)
 
-pub none_yet : (ws : List (List ℕ)) (c : Option ℕ) (n : ℕ) (out : List ℕ) → length out ≡ n → Filled ws c n 0 out ws
-none_yet ws c n out l = let e : n - 0 ≡ n = omega arith in record { within = omega arith; long = l; same = sym (ap (λ k. fields c 0 k ws) e) }
+pub none_yet : (capped : Bool) (ws : List (List ℕ)) (c : Option ℕ) (n : ℕ) (out : List ℕ) → length out ≡ n → Filled capped ws c n 0 out ws
+none_yet capped ws c n out l = let e : n - 0 ≡ n = omega arith in record { within = omega arith; long = l; same = sym (ap (λ k. fields capped c 0 k ws) e) }
 
-module _ {ws rest : List (List ℕ)} {out : List ℕ} {c : Option ℕ} {n i : ℕ} (f : Filled ws c n i out rest) where
-  pub too_few : i < n → rest ≡ [] → fields c 0 n ws ≡ Ok None
+module _ {ws rest : List (List ℕ)} {out : List ℕ} {capped : Bool} {c : Option ℕ} {n i : ℕ} (f : Filled capped ws c n i out rest) where
+  pub too_few : i < n → rest ≡ [] → fields capped c 0 n ws ≡ Ok None
   unfolding fields
   too_few lt none =
       let e : n - i ≡ suc (n - (i + 1)) = omega (arith, lt) in
       f.same ∙ rw (e, none) (alsos_none (take i out))
 
-  pub all_there : i ≡ n → rest ≡ [] → fields c 0 n ws ≡ Ok (Some out)
+  pub all_there : i ≡ n → rest ≡ [] → fields capped c 0 n ws ≡ Ok (Some out)
   unfolding fields
   all_there eq none =
       let e : n - i ≡ 0 = omega (arith, eq) in
@@ -62,19 +62,19 @@ module _ {ws rest : List (List ℕ)} {out : List ℕ} {c : Option ℕ} {n i : �
       f.same ∙ rw (e, none) (alsos_ok (take i out) ∙ ap (λ xs. Ok (Some xs)) (take_all i out l))
 
   module _ {after : List (List ℕ)} {w : List ℕ} (some : rest ≡ w ∷ after) where
-    pub too_many : i ≡ n → fields c 0 n ws ≡ Ok None
+    pub too_many : i ≡ n → fields capped c 0 n ws ≡ Ok None
     unfolding fields
     too_many eq =
         let e : n - i ≡ 0 = omega (arith, eq) in
         f.same ∙ rw (e, some) (alsos_none (take i out))
 
-    pub bad : (k : Expected) → i < n → field (may_be_table c i) w ≡ Err k → fields c 0 n ws ≡ Err k
+    pub bad : (k : Expected) → i < n → field capped (may_be_table c i) w ≡ Err k → fields capped c 0 n ws ≡ Err k
     unfolding fields
     bad k lt q =
         let e : n - i ≡ suc (n - (i + 1)) = omega (arith, lt) in
         f.same ∙ rw (e, some, q) (alsos_err (take i out) k)
 
-    pub next : (x : ℕ) → i < n → field (may_be_table c i) w ≡ Ok x → Filled ws c n (i + 1) (set out i x) after
+    pub next : (x : ℕ) → i < n → field capped (may_be_table c i) w ≡ Ok x → Filled capped ws c n (i + 1) (set out i x) after
     unfolding fields
     next x lt q =
         let e : n - i ≡ suc (n - (i + 1)) = omega (arith, lt) in
@@ -82,5 +82,5 @@ module _ {ws rest : List (List ℕ)} {out : List ℕ} {c : Option ℕ} {n i : �
         record {
           within = omega (arith, lt);
           long = length-set out i x ∙ f.long;
-          same = f.same ∙ rw (e, some, q) (alsos_push (take i out) x (fields c (i + 1) (n - (i + 1)) after) ∙ ap (λ t. alsos t (fields c (i + 1) (n - (i + 1)) after)) (sym (take_more_set out i x l)));
+          same = f.same ∙ rw (e, some, q) (alsos_push (take i out) x (fields capped c (i + 1) (n - (i + 1)) after) ∙ ap (λ t. alsos t (fields capped c (i + 1) (n - (i + 1)) after)) (sym (take_more_set out i x l)));
         }

@@ -1,5 +1,5 @@
 -- The fields of a line: numbers, and a table by its name.
-use Rattle.std.specs.Prelude.{ℕ, zero, suc, ◌+◌, Bool, false, cond, List, [], ◌∷◌, map, position, Some, None, Ok, Err, Option, Result, ◌==◌, slice_index_or}
+use Rattle.std.specs.Prelude.{ℕ, zero, suc, ◌+◌, ◌-◌, ◌^◌, Bool, false, cond, List, [], ◌∷◌, map, position, Some, None, Ok, Err, Option, Result, ◌==◌, slice_index_or}
 use Rattle.std.specs.Option.{option_eq}
 use Rattle.std.specs.Str.{bytes_eq}
 use Rattle.circuit.specs.Gate.{tables}
@@ -26,15 +26,19 @@ abbrev pub wanted : Unread → Expected
 wanted NoDigit = Number
 wanted TooLarge = Small
 
+-- the largest number that is read; where numbers are capped, a larger one is read as this
+abbrev pub cap : ℕ
+cap = 2 ^ 32 - 1
+
 -- a number that was read, or what was expected in its place: where a table may stand, its name or its number
-abbrev pub read_as : Bool → List ℕ → Result ℕ Unread → Result ℕ Expected
-read_as table w (Ok x) = Ok x
-read_as table w (Err TooLarge) = Err (wanted TooLarge)
-read_as table w (Err NoDigit) = cond table (or_fault (named w)) (Err (wanted NoDigit))
+abbrev pub read_as : (capped table : Bool) → List ℕ → Result ℕ Unread → Result ℕ Expected
+read_as capped table w (Ok x) = Ok x
+read_as capped table w (Err TooLarge) = cond capped (Ok cap) (Err (wanted TooLarge))
+read_as capped table w (Err NoDigit) = cond table (or_fault (named w)) (Err (wanted NoDigit))
 
 -- the number that a word stands for
-unfoldable pub field : Bool → List ℕ → Result ℕ Expected
-field table w = read_as table w (number w)
+unfoldable pub field : (capped table : Bool) → List ℕ → Result ℕ Expected
+field capped table w = read_as capped table w (number w)
 
 -- one value before the others, unless their count is wrong; or the first fault
 abbrev pub also : Result ℕ Expected → Result (Option (List ℕ)) Expected → Result (Option (List ℕ)) Expected
@@ -49,8 +53,8 @@ may_be_table c i = option_eq (λ a b. a == b) c (Some i)
 
 -- just n numbers, of which the first is in column i and a table may stand in column c; None where there are fewer or more.
 -- Words are looked at from left to right, and no further than the first fault or one word too many
-unfoldable pub fields : (c : Option ℕ) (i n : ℕ) → List (List ℕ) → Result (Option (List ℕ)) Expected
-fields c i zero [] = Ok (Some [])
-fields c i zero (w ∷ ws) = Ok None
-fields c i (suc n) [] = Ok None
-fields c i (suc n) (w ∷ ws) = also (field (may_be_table c i) w) (fields c (i + 1) n ws)
+unfoldable pub fields : (capped : Bool) (c : Option ℕ) (i n : ℕ) → List (List ℕ) → Result (Option (List ℕ)) Expected
+fields capped c i zero [] = Ok (Some [])
+fields capped c i zero (w ∷ ws) = Ok None
+fields capped c i (suc n) [] = Ok None
+fields capped c i (suc n) (w ∷ ws) = also (field capped (may_be_table c i) w) (fields capped c (i + 1) n ws)

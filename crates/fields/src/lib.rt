@@ -68,24 +68,26 @@ pub fn name_of(table: u32) -> &'static str
     NAMES.get(table as usize).copied().unwrap_or("")
 }
 
-// A number, or where a table may stand its name.
+// A number, or where a table may stand its name. Where numbers are capped one of 2^32 or more is read as 2^32 - 1.
 #[tactic(auto, unfolding(crate::specs::Fields::field))]
-fn field(word: &[u8], may_be_table: bool) -> Result<u32, Expected>
-    ensures { result ≡ field may_be_table word.now }
+fn field(word: &[u8], capped: bool, may_be_table: bool) -> Result<u32, Expected>
+    ensures { result ≡ field capped may_be_table word.now }
 {
     match lines::value(word) {
         Err(Unread::NoDigit) if may_be_table => table_of(word).ok_or(Expected::Table),
+        Err(Unread::TooLarge) if capped => Ok(u32::MAX),
         number => Ok(number?),
     }
 }
 
 // The numbers of a line that has just N, and None where it has fewer or more. In column `table_at`, if there
-// is one, a table's name may stand.
+// is one, a table's name may stand. Where they are `capped` one of 2^32 or more is read as 2^32 - 1, else it is a fault.
 pub fn read<const N: usize>(
     line: &[u8],
+    capped: bool,
     table_at: Option<usize>,
 ) -> Result<Option<[u32; N]>, Expected>
-    ensures { result ≡ fields table_at 0 N (words line.now) }
+    ensures { result ≡ fields capped table_at 0 N (words line.now) }
 {
     let mut numbers = [0; N];
     let mut words = Words::new(line);
@@ -94,7 +96,7 @@ pub fn read<const N: usize>(
             return Ok(None);
         };
         let named = table_at == Some(i);
-        *number = field(word, named)?;
+        *number = field(word, capped, named)?;
     }
     match words.next() {
         None => Ok(Some(numbers)),

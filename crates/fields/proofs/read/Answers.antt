@@ -5,7 +5,7 @@ use Rattle.fields.proofs.FieldLaws.{none_yet, too_few, too_many, all_there, bad,
 use Rattle.fields.proofs.read.Goals as goal
 
 pub loop-i-init : goal.loop-i-init
-loop-i-init g c = rw c.new-words.ensures (none_yet _ _ _ _ (length-replicate g.row.N 0))
+loop-i-init g c = rw c.new-words.ensures (none_yet _ _ _ _ _ (length-replicate g.row.N 0))
 
 pub returns-in_default : goal.returns-in_default
 returns-in_default g c = search (rules, too_few)
