@@ -56,15 +56,15 @@ module _ {q : ℕ} {ws rest : List (List ℕ)} {bs : List Bool} (f : Filled q ws
       left : q - length bs ≡ suc (q - (length bs + 1))
       left = omega (arith, lt)
 
-      pub bad_bit : (k : Expected) → Err k ≡ and_then (field false w) bit_of → bits q ws ≡ Err k
+      pub bad_bit : (k : Expected) → Err k ≡ and_then (field false false w) bit_of → bits q ws ≡ Err k
       unfolding bits
-      bad_bit k is = f.same ∙ rw (left, some) (ap (onto bs) (bit_first (field false w) (bits (q - (length bs + 1)) after) (sym is)))
+      bad_bit k is = f.same ∙ rw (left, some) (ap (onto bs) (bit_first (field false false w) (bits (q - (length bs + 1)) after) (sym is)))
 
-      pub next : (b : Bool) → Ok b ≡ and_then (field false w) bit_of → Filled q ws (bs ++ (b ∷ [])) after
+      pub next : (b : Bool) → Ok b ≡ and_then (field false false w) bit_of → Filled q ws (bs ++ (b ∷ [])) after
       unfolding bits
       next b is =
           let l : length (bs ++ (b ∷ [])) ≡ length bs + 1 = length-append bs (b ∷ []) in
           record {
             within = omega (arith, l, lt);
-            same = f.same ∙ rw (left, some) (ap (onto bs) (bit_first (field false w) (bits (q - (length bs + 1)) after) (sym is)) ∙ onto_one bs b (bits (q - (length bs + 1)) after) ∙ ap (λ n. onto (bs ++ (b ∷ [])) (bits (q - n) after)) (sym l));
+            same = f.same ∙ rw (left, some) (ap (onto bs) (bit_first (field false false w) (bits (q - (length bs + 1)) after) (sym is)) ∙ onto_one bs b (bits (q - (length bs + 1)) after) ∙ ap (λ n. onto (bs ++ (b ∷ [])) (bits (q - n) after)) (sym l));
           }

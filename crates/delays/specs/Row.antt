@@ -20,7 +20,7 @@ counted l (Err e) = Err e
 
 -- just n numbers, after the first word of a line
 unfoldable pub numbers : Line → ℕ → List (List ℕ) → Result (List ℕ) Expected
-numbers l n ws = counted l (fields None 0 n ws)
+numbers l n ws = counted l (fields false None 0 n ws)
 
 -- just one
 unfoldable pub number_after : Line → List (List ℕ) → Result ℕ Expected
@@ -35,7 +35,7 @@ unfoldable pub bits : (n : ℕ) → List (List ℕ) → Result (List Bool) Expec
 bits zero [] = Ok []
 bits zero (w ∷ ws) = Err (After Start)
 bits (suc n) [] = Err (After Start)
-bits (suc n) (w ∷ ws) = and_then (field false w) (λ x. and_then (bit_of x) (λ b. and_then (bits n ws) (λ bs. Ok (b ∷ bs))))
+bits (suc n) (w ∷ ws) = and_then (field false false w) (λ x. and_then (bit_of x) (λ b. and_then (bits n ws) (λ bs. Ok (b ∷ bs))))
 
 -- three numbers on line n, counted from 0: moment or cycle, gate or register, and value
 abbrev pub entry_of : (n : ℕ) → List ℕ → Entry

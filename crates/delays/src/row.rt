@@ -19,7 +19,7 @@ const NO_GATE: u32 = u32::MAX;
 fn numbers<const N: usize>(text: &[u8], line: Line) -> Result<[u32; N], Expected>
     ensures { result ≡ numbers line N (words text.now) }
 {
-    fields::read::<N>(text, None)?.ok_or(Expected::After(line))
+    fields::read::<N>(text, false, None)?.ok_or(Expected::After(line))
 }
 
 // Just one.
@@ -51,7 +51,7 @@ fn bit(number: u32) -> Result<bool, Expected>
 
 // The bit that a word is.
 fn word_bit(word: &[u8]) -> Result<bool, Expected>
-    ensures { result ≡ and_then (field false word.now) bit_of }
+    ensures { result ≡ and_then (field false false word.now) bit_of }
 {
     bit(lines::value(word)?)
 }

@@ -1,2 +1,3 @@
 pub mod Meaning
 pub mod Read
+pub mod Reader

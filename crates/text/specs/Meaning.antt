@@ -1,5 +1,5 @@
 -- What a text of circuits means.
-use Rattle.std.specs.Prelude.{◌≡◌, ℕ, ◌+◌, ◌-◌, Bool, false, cond, ◌⊎◌, List, [], ◌∷◌, ◌++◌, Some, None, Ok, Err, vec_items, codes, Option, Result, MatchResult, ◌==◌, nat_lt}
+use Rattle.std.specs.Prelude.{◌≡◌, ℕ, ◌+◌, ◌-◌, Bool, true, false, cond, ◌⊎◌, List, [], ◌∷◌, ◌++◌, Some, None, Ok, Err, vec_items, codes, Option, Result, MatchResult, ◌==◌, nat_lt}
 use Rattle.std.specs.Borrow.{Bor}
 use Rattle.std.specs.List.{list_all}
 use Rattle.std.specs.Option.{option_map}
@@ -84,9 +84,9 @@ ending d (w ∷ ws) = Err Nothing
 
 -- what line n makes of a circuit, by its keyword and its other words
 abbrev pub said : Option Keyword → ℕ → Drafted → List (List ℕ) → Result (Progress × Drafted) Expected
-said (Some Gate) n d ws = row (with_gates d) d.gates d.miscount Gates n (fields (Some 2) 0 7 ws)
-said (Some Register) n d ws = row (with_registers d) d.registers d.miscount Registers n (fields None 0 3 ws)
-said (Some Times) n d ws = row (with_times d) d.times d.miscount TimesPart n (fields None 0 5 ws)
+said (Some Gate) n d ws = row (with_gates d) d.gates d.miscount Gates n (fields true (Some 2) 0 7 ws)
+said (Some Register) n d ws = row (with_registers d) d.registers d.miscount Registers n (fields true None 0 3 ws)
+said (Some Times) n d ws = row (with_times d) d.times d.miscount TimesPart n (fields true None 0 5 ws)
 said (Some End) n d ws = ending d ws
 said (Some Circuit) n d ws = Err Statement
 said None n d ws = Err Statement

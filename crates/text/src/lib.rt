@@ -1,7 +1,7 @@
 // Texts of circuits, read.
 #![tactic(auto)]
 
-ghost use Rattle.std.specs.Prelude.{◌≡◌, ℕ, ◌*◌, ◌^◌, ◌<◌, ◌≤◌, List, ◌++◌, length, vec_items, Some, None, Ok, Err, MatchResult};
+ghost use Rattle.std.specs.Prelude.{◌≡◌, ℕ, ◌*◌, ◌^◌, ◌<◌, ◌≤◌, List, ◌++◌, length, vec_items, Some, None, Ok, Err, MatchResult, true};
 ghost use Rattle.std.specs.List.{list_all};
 ghost use Rattle.lines.specs.Words.{words, lines, bare};
 ghost use Rattle.fields.specs.Fields.{fields};
@@ -13,11 +13,15 @@ use lines::{Lines, Words};
 use std::alloc::Global;
 
 mod draft;
+mod listing;
 mod part;
+mod reader;
 
 use draft::Progress;
 pub use draft::{Draft, Keyword, Miscount, Read};
+pub use listing::{Listing, Places};
 pub use part::Part;
+pub use reader::{Reader, places_are_lines, reads_by_lines, trimmed_alike};
 
 impl Keyword {
     // What a line is that begins with this word.
@@ -81,9 +85,9 @@ fn add<const N: usize>(
     miscount: &mut Option<Miscount>,
 ) -> Result<(), Expected>
     requires { N * 4 < 2 ^ 63 }
-    ensures { Added (fields row.table_at 0 N (words text.now)) row.part line so_far.old.items so_far.new.items miscount.old miscount.new result }
+    ensures { Added (fields true row.table_at 0 N (words text.now)) row.part line so_far.old.items so_far.new.items miscount.old miscount.new result }
 {
-    match fields::read::<N>(text, row.table_at)? {
+    match fields::read::<N>(text, true, row.table_at)? {
         Some(numbers) => so_far.extend_from_slice(&numbers)?,
         None => *miscount = note(*miscount, row.part, line),
     }
@@ -99,7 +103,7 @@ fn take<const N: usize>(
     miscount: &mut Option<Miscount>,
 ) -> Result<Progress, Expected>
     requires { N * 4 < 2 ^ 63 }
-    ensures { Taken (fields row.table_at 0 N (words text.now)) row.part line so_far.old.items so_far.new.items miscount.old miscount.new result }
+    ensures { Taken (fields true row.table_at 0 N (words text.now)) row.part line so_far.old.items so_far.new.items miscount.old miscount.new result }
 {
     add::<N>(text, line, row, so_far, miscount)?;
     Ok(Progress::More)
@@ -143,7 +147,7 @@ impl Draft {
     }
 
     // The same with its comment.
-    fn line(&mut self, text: &[u8], line: usize) -> Result<Progress, Fault>
+    pub(crate) fn line(&mut self, text: &[u8], line: usize) -> Result<Progress, Fault>
         ensures { LineStated (statement line (drafted self.old) (words (bare text.now))) line (drafted self.new) result }
     {
         self.statement(lines::bare(text), line)
@@ -195,7 +199,7 @@ impl Draft {
     }
 
     // The same with its comment.
-    fn open_line(heap: Global, text: &[u8], line: usize) -> Result<Option<Draft>, Fault>
+    pub(crate) fn open_line(heap: Global, text: &[u8], line: usize) -> Result<Option<Draft>, Fault>
         ensures { LineOpened (opened line (words (bare text.now))) line result }
     {
         Draft::open(heap, lines::bare(text), line).map_err(|expected| Fault { line, expected })
@@ -249,7 +253,7 @@ pub fn read<'a>(heap: Global, text: &'a [u8]) -> Result<Option<Read<'a>>, Fault>
 }
 
 // Whether a line begins with a word.
-fn begins_with(line: &[u8], word: &[u8]) -> bool
+pub(crate) fn begins_with(line: &[u8], word: &[u8]) -> bool
     ensures { result ≡ begins_with word.now (words (bare line.now)) }
 {
     let Some((first, _)) = lines::word(lines::bare(line)) else {

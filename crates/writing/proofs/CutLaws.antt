@@ -55,9 +55,9 @@ goes_row put xs m p n (Ok None) = tt
 goes_row put xs m p n (Err e) = tt
 
 goes_said : (k : Option Keyword) (n : ℕ) (d : Drafted) (ws : List (List ℕ)) → (k ≡ Some End → ⊥) → GoesOn (said k n d ws)
-goes_said (Some Gate) n d ws h = goes_row (with_gates d) d.gates d.miscount Gates n (fields (Some 2) 0 7 ws)
-goes_said (Some Register) n d ws h = goes_row (with_registers d) d.registers d.miscount Registers n (fields None 0 3 ws)
-goes_said (Some Times) n d ws h = goes_row (with_times d) d.times d.miscount TimesPart n (fields None 0 5 ws)
+goes_said (Some Gate) n d ws h = goes_row (with_gates d) d.gates d.miscount Gates n (fields true (Some 2) 0 7 ws)
+goes_said (Some Register) n d ws h = goes_row (with_registers d) d.registers d.miscount Registers n (fields true None 0 3 ws)
+goes_said (Some Times) n d ws h = goes_row (with_times d) d.times d.miscount TimesPart n (fields true None 0 5 ws)
 goes_said (Some End) n d ws h = absurd (h refl)
 goes_said (Some Circuit) n d ws h = tt
 goes_said None n d ws h = tt

@@ -46,11 +46,11 @@ number_decimal n h =
     let v = digits_value-decimal own n (omega arith) in
     simp (lt-ltb 0 (length (decimal n)) (decimal_nonempty n (omega arith)), d, v, lt-ltb n (2 ^ 32) h)
 
-pub field_decimal : (table : Bool) (n : ℕ) → n < 2 ^ 32 → field table (decimal n) ≡ Ok n
+pub field_decimal : (table : Bool) (n : ℕ) → n < 2 ^ 32 → field true table (decimal n) ≡ Ok n
 unfolding field
 field_decimal table n h = rw (number_decimal n h) refl
 
-pub fields_decimal : (c : Option ℕ) (i : ℕ) (ns : List ℕ) → AreSmall ns → fields c i (length ns) (map decimal ns) ≡ Ok (Some ns)
+pub fields_decimal : (c : Option ℕ) (i : ℕ) (ns : List ℕ) → AreSmall ns → fields true c i (length ns) (map decimal ns) ≡ Ok (Some ns)
 unfolding fields
 fields_decimal c i [] h = refl
 fields_decimal c i (n ∷ ns) h = rw (field_decimal _ n h.0, fields_decimal c (i + 1) ns h.1) refl
@@ -69,6 +69,6 @@ pub word_name : (t : ℕ) → t < 16 → IsWord (name_of t)
 unfolding blank
 word_name t h = at (λ t. is_word (name_of t)) 16 refl t h
 
-pub field_name : (t : ℕ) → t < 16 → field true (name_of t) ≡ Ok t
+pub field_name : (t : ℕ) → t < 16 → field true true (name_of t) ≡ Ok t
 unfolding field named number
-field_name t h = read_is t (field true (name_of t)) (at (λ t. is_read t (field true (name_of t))) 16 refl t h)
+field_name t h = read_is t (field true true (name_of t)) (at (λ t. is_read t (field true true (name_of t))) 16 refl t h)

@@ -86,9 +86,9 @@ row_kept d put xs m p n (Ok None) h = h _ _
 row_kept d put xs m p n (Err e) h = tt
 
 said_kept : (k : Option Keyword) (n : ℕ) (d : Drafted) (ws : List (List ℕ)) → Kept d.name (said k n d ws)
-said_kept (Some Gate) n d ws = row_kept d (with_gates d) d.gates d.miscount Gates n (fields (Some 2) 0 7 ws) (λ ys k. refl)
-said_kept (Some Register) n d ws = row_kept d (with_registers d) d.registers d.miscount Registers n (fields None 0 3 ws) (λ ys k. refl)
-said_kept (Some Times) n d ws = row_kept d (with_times d) d.times d.miscount TimesPart n (fields None 0 5 ws) (λ ys k. refl)
+said_kept (Some Gate) n d ws = row_kept d (with_gates d) d.gates d.miscount Gates n (fields true (Some 2) 0 7 ws) (λ ys k. refl)
+said_kept (Some Register) n d ws = row_kept d (with_registers d) d.registers d.miscount Registers n (fields true None 0 3 ws) (λ ys k. refl)
+said_kept (Some Times) n d ws = row_kept d (with_times d) d.times d.miscount TimesPart n (fields true None 0 5 ws) (λ ys k. refl)
 said_kept (Some End) n d [] = refl
 said_kept (Some End) n d (w ∷ ws) = tt
 said_kept (Some Circuit) n d ws = tt

@@ -1,5 +1,5 @@
 -- Laws of written lines: what each adds to the circuit that is read.
-use Rattle.std.proofs.Common.{◌≡◌, ℕ, zero, suc, ◌+◌, ◌*◌, ◌<◌, ◌≤◌, false, List, [], ◌∷◌, ◌++◌, map, codes, take, Some, None, Ok, refl, ap, ◌∙◌, append_assoc, arith}
+use Rattle.std.proofs.Common.{◌≡◌, ℕ, zero, suc, ◌+◌, ◌*◌, ◌<◌, ◌≤◌, true, false, List, [], ◌∷◌, ◌++◌, map, codes, take, Some, None, Ok, refl, ap, ◌∙◌, append_assoc, arith}
 use Rattle.std.specs.Fmt.{decimal}
 use Rattle.circuit.specs.declared.gate.Gate.{Gate}
 use Rattle.circuit.specs.declared.register.Register.{Register}
@@ -53,7 +53,7 @@ module _ (g : Gate) (small : AreSmall (gate_numbers g)) (table : g.table < 16) w
   pub words_of_gate : AreWords (gate_words g)
   words_of_gate = rw (word_decimal g.one small.0, word_decimal g.two small.1.0, word_name g.table table, words_decimal (g.least_one ∷ g.greatest_one ∷ g.least_two ∷ g.greatest_two ∷ []) small.1.1.1) refl
 
-  gate_fields : fields (Some 2) 0 7 (gate_words g) ≡ Ok (Some (gate_numbers g))
+  gate_fields : fields true (Some 2) 0 7 (gate_words g) ≡ Ok (Some (gate_numbers g))
   unfolding fields
   gate_fields = rw (field_decimal false g.one small.0, field_decimal false g.two small.1.0, field_name g.table table, fields_decimal (Some 2) 3 (g.least_one ∷ g.greatest_one ∷ g.least_two ∷ g.greatest_two ∷ []) small.1.1.1) refl
 
