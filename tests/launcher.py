@@ -1,6 +1,6 @@
 #!/usr/bin/env python3
-"""Runs the launcher `muleminute` in checkouts of a few empty crates, with a command `rt` that only pretends to build: when
-it builds and when not, links to it, checkouts that cannot be written, two at once, builds that end early, and what it says.
+"""Runs the launcher `muleminute` in checkouts of a few empty crates, with a command `rt` that only pretends to build:
+when it builds and when not, links to it, checkouts that cannot be written, two at once, builds that end early.
 
     tests/launcher.py      (needs nothing built)"""
 import os
@@ -11,19 +11,20 @@ import subprocess
 import sys
 import tempfile
 import time
+from concurrent.futures import ProcessPoolExecutor
 
 TOP = os.path.realpath(os.path.join(os.path.dirname(os.path.abspath(__file__)), ".."))
 CRATES = """# One line a crate: NAME: the crates it stands on.
 low:
-middle: low
+middle staticlib: low
 aside: low
-fast staticlib: low
+fast: low
 pass: middle serde_json
 bench: aside low
 """
 USAGE = "usage: muleminute pass [OPTION]... FILE...\n"
-# Builds a program that says which build it is of, where it runs and how it is called. RT_FAILS makes the build fail, RT_SLOW
-# lets it begin to write the program and then take long.
+# Builds a program that says which build it is of, where it runs and how it is called. RT_FAILS makes the build fail,
+# RT_SLOW lets it begin to write the program and then take long, and RT_GATE lets it wait until there is such a file.
 RT = """#!/bin/sh
 if [ "$*" = version ]; then
     echo "toolchain 7"
@@ -42,10 +43,22 @@ fi
 if [ -n "${RT_SLOW-}" ]; then
     printf '#!/bin/sh\\necho half\\n' >"out/$name"
     chmod +x "out/$name"
+    exec sleep "$RT_SLOW"
 fi
-sleep "${RT_SLOW:-${RT_SLEEP:-0}}"
+tries=0
+until [ -z "${RT_GATE-}" ] || [ -e "$RT_GATE" ]; do
+    tries=$((tries + 1))
+    [ $tries -lt 50 ] || exit 8
+    sleep 1
+done
 build=$(wc -l <"$RT_RUNS" | tr -d ' ')
-printf '#!/bin/sh\\necho "%s $* by build %s in $PWD"\\nexit 5\\n' "$name" "$build" >"out/$name.new"
+cat >"out/$name.new" <<END
+#!/bin/sh
+printf "$name"
+[ \\$# -eq 0 ] || printf " <%s>" "\\$@"
+echo " by build $build in \\$PWD"
+exit 5
+END
 chmod +x "out/$name.new"
 mv "out/$name.new" "out/$name"
 """
@@ -74,7 +87,8 @@ class Checkout:
         self.path = os.path.join(room, "bin") + os.pathsep + os.environ["PATH"]
         self.file("crates.txt", CRATES)
         for crate in ("low", "middle", "aside", "fast", "pass", "bench"):
-            self.file("crates/%s/src/%s.rt" % (crate, "main" if crate in ("pass", "bench") else "lib"), "// %s\n" % crate)
+            top = "main" if crate in ("pass", "bench") else "lib"
+            self.file("crates/%s/src/%s.rt" % (crate, top), "// %s\n" % crate)
             self.file("crates/%s/specs/Lib.antt" % crate, "")
         self.file("crates/low/proofs/first/Answers.antt", "-- first\n")
         shutil.copy(os.path.join(TOP, "muleminute"), self.launcher)
@@ -105,7 +119,8 @@ class Checkout:
         """The program runs, and by then there were that many builds; it is of the last one, if not told."""
         status, out, err = self.run(program, "a b", "-c", **more)
         where = more.get("cwd", self.room)
-        same((status, out), (5, "%s a b -c by build %d in %s\n" % (program, by or builds, where)), "%s (%s)" % (what, err))
+        want = "%s <a b> <-c> by build %d in %s\n" % (program, by or builds, where)
+        same((status, out), (5, want), "%s (%s)" % (what, err))
         same(self.builds(), builds, what)
         return err
 
@@ -137,30 +152,33 @@ def check_words(room):
         same(checkout.run(option), (0, "muleminute 0.1.0\n", ""), option)
     status, out, err = checkout.run()
     assert status == 2 and out == "" and err.startswith(USAGE), (status, out, err)
-    for wrong, said in (("path", "unknown program 'path'"), ("--wrong", "unknown option '--wrong'"), ("", "unknown program ''"), ("../pass", "unknown program '../pass'")):
+    for wrong in ("path", "--wrong", "", "../pass", "pass bench"):
         status, out, err = checkout.run(wrong)
-        assert status == 2 and out == "" and err.startswith("muleminute: %s\n%s" % (said, USAGE)), (wrong, status, out, err)
+        said = "muleminute: unknown %s '%s'\n" % ("option" if wrong.startswith("-") else "program", wrong)
+        assert status == 2 and out == "" and err.startswith(said + USAGE), (wrong, status, out, err)
     same(checkout.builds(), 0, "words")
     checkout.expect(1)
-    same(checkout.run("--version"), (0, "muleminute 0.1.0\npass: built with toolchain 7\n", ""), "--version")
+    of_pass, of_bench = "pass: built with toolchain 7\n", "bench: built with toolchain 7\n"
+    same(checkout.run("--version"), (0, "muleminute 0.1.0\n" + of_pass, ""), "--version")
     checkout.expect(2, "bench")
-    same(checkout.run("-V"), (0, "muleminute 0.1.0\npass: built with toolchain 7\nbench: built with toolchain 7\n", ""), "-V")
+    same(checkout.run("-V"), (0, "muleminute 0.1.0\n" + of_pass + of_bench, ""), "-V")
     # What something else built since is not told of.
     write(checkout.at("crates/pass/out/pass"), "#!/bin/sh\n", 0o755)
-    same(checkout.run("-V"), (0, "muleminute 0.1.0\nbench: built with toolchain 7\n", ""), "-V")
+    same(checkout.run("-V"), (0, "muleminute 0.1.0\n" + of_bench, ""), "-V")
 
 
 def check_building(room):
     """The first run builds and says so, the second one does not; the log stands in target/."""
     checkout = Checkout(room)
     err = checkout.expect(1)
-    same(err, "muleminute: building pass; the first build proves everything it stands on and takes a few minutes\n", "first")
+    want = "muleminute: building pass; the first build proves everything it stands on and takes a few minutes\n"
+    same(err, want, "first")
     with open(checkout.at("target/build-pass.log")) as log:
         same(log.read(), "checked low::first, 3 of 14\n", "log")
     same(checkout.expect(1), "", "second")
     # Arguments reach the program as they are.
     status, out, _ = checkout.run("pass", "--help")
-    assert status == 5 and out.startswith("pass --help by build 1"), out
+    assert status == 5 and out.startswith("pass <--help> by build 1"), out
 
 
 def check_sources(room):
@@ -179,7 +197,8 @@ def check_sources(room):
     def unchanged(what):
         same(checkout.expect(builds, what=what), "", what)
 
-    for name in ("crates/pass/src/main.rt", "crates/middle/specs/Lib.antt", "crates/low/src/lib.rt", "crates/low/proofs/first/Answers.antt"):
+    for name in ("pass/src/main.rt", "middle/specs/Lib.antt", "low/src/lib.rt", "low/proofs/first/Answers.antt"):
+        name = "crates/" + name
         checkout.old(name, -100000)
         unchanged("only the time of %s is new" % name)
         checkout.file(name, "// other\n")
@@ -197,8 +216,10 @@ def check_sources(room):
     changed("a crate that it stands on since")
     checkout.file("crates.txt", CRATES)
     changed("crates.txt")
-    for name in ("crates/aside/src/lib.rt", "crates/fast/src/lib.rt", "crates/bench/src/main.rt", "crates/other/src/lib.rt"):
-        checkout.file(name, "// for another program\n")
+    checkout.file("crates.txt", CRATES + "# the end\n")
+    changed("crates.txt, with the same crates")
+    for name in ("aside/src/lib.rt", "fast/src/lib.rt", "bench/src/main.rt", "other/src/lib.rt"):
+        checkout.file("crates/" + name, "// for another program\n")
         unchanged(name)
     for name in ("main.rt~", ".#main.rt", ".main.rt.swp", "#main.rt#", "main.swp", "main.rt.orig", ".hidden.rt"):
         checkout.file("crates/pass/src/" + name, "left")
@@ -206,7 +227,7 @@ def check_sources(room):
     os.remove(checkout.at("crates/pass/src/.#main.rt"))
     os.symlink("someone@host.1", checkout.at("crates/pass/src/.#main.rt"))
     unchanged("a lock of an editor")
-    for name in ("crates/pass/data/x.rt", "crates/pass/must-fail/x.edit", "crates/low/out/x.rt", "README.md", "docs/x.antt"):
+    for name in ("crates/pass/data/x.rt", "crates/pass/must-fail/x.edit", "crates/low/out/x.rt", "docs/x.antt"):
         checkout.file(name, "// no source\n")
         unchanged(name)
     checkout.expect(builds + 1, "bench")
@@ -214,9 +235,9 @@ def check_sources(room):
 
 
 def check_stamp(room):
-    """What something else built is taken if no source is newer; a program that is not the one of the stamp is built anew."""
+    """What something else built is taken if no source is newer; a program that is not the stamp's is built anew."""
     checkout = Checkout(room)
-    program = "#!/bin/sh\necho \"pass $* by build 70 in $PWD\"\nexit 5\n"
+    program = "#!/bin/sh\necho \"pass <$1> <$2> by build 70 in $PWD\"\nexit 5\n"
     for at, _, names in os.walk(checkout.top):
         for name in names:
             checkout.old(os.path.join(at, name))
@@ -240,9 +261,10 @@ def check_stamp(room):
     # What changes while the build runs is built by the next one.
     checkout = Checkout(room, "changing")
     before = checkout.builds()
-    with checkout.begin("pass", env={"RT_SLEEP": "3"}) as begun:
+    with checkout.begin("pass", env={"RT_GATE": checkout.at("gate")}) as begun:
         wait_until(lambda: checkout.builds() == before + 1)
         checkout.file("crates/low/src/lib.rt", "// changed\n")
+        checkout.file("gate", "")
         begun.communicate(timeout=60)
     checkout.expect(before + 2, what="changed while it was built")
 
@@ -267,16 +289,19 @@ def check_links(room):
     checkout.expect(1, launcher=os.path.join(room, "far/off/chain"))
     for cwd in (room, far, checkout.top, "/"):
         for link in ("whole", "near/relative", "far/off/chain", "far/longer", "-dash", "into/chain", "into/../longer"):
-            for name in (os.path.join(room, link), os.path.join(os.path.relpath(room, os.path.realpath(cwd)), link)):
+            for start in (room, os.path.relpath(room, os.path.realpath(cwd))):
+                name = os.path.join(start, link)
                 checkout.expect(1, launcher=name, cwd=cwd, what=name)
     checkout.expect(1, launcher="./muleminute", cwd=checkout.top)
     # By its name alone: from the PATH, or given to sh.
     named = {"PATH": os.path.join(room, "near") + os.pathsep + checkout.path}
     status, out, err = checkout.run("-c", "relative pass x", launcher="sh", env=named, cwd="/")
-    assert status == 5 and out.startswith("pass x by build 1 in /"), (status, out, err)
+    assert status == 5 and out.startswith("pass <x> by build 1 in /"), (status, out, err)
     status, out, err = checkout.run("muleminute", "pass", "x", launcher="sh", cwd=checkout.top)
-    assert status == 5 and out.startswith("pass x by build 1 "), (status, out, err)
-    # CDPATH and the like do not lead elsewhere.
+    assert status == 5 and out.startswith("pass <x> by build 1 "), (status, out, err)
+    # CDPATH does not lead elsewhere.
+    os.makedirs(os.path.join(far, "near"))
+    os.makedirs(os.path.join(far, "check out"))
     checkout.expect(1, launcher="near/relative", env={"CDPATH": far})
     # A copy elsewhere says what is wrong.
     lost = os.path.join(room, "lost")
@@ -294,8 +319,8 @@ def tools(room, but):
     """A folder with the commands that the launcher may use, but those."""
     folder = os.path.join(room, "tools")
     os.makedirs(folder, exist_ok=True)
-    for name in ("awk", "basename", "cat", "chmod", "cksum", "dirname", "find", "flock", "head", "ln", "mkdir", "mv", "ps", "readlink", "rm",
-                 "rmdir", "sed", "sh", "sleep", "sort", "tail", "tr", "wc"):
+    for name in ("awk", "basename", "cat", "chmod", "cksum", "find", "flock", "head", "ln", "mkdir", "mv", "ps",
+                 "readlink", "rm", "rmdir", "sed", "sh", "sleep", "sort", "tail", "tr", "wc"):
         to = os.path.join(folder, name)
         if os.path.lexists(to):
             os.remove(to)
@@ -303,6 +328,11 @@ def tools(room, but):
         if found and name not in but:
             os.symlink(found, to)
     return folder
+
+
+def text_of(path):
+    with open(path) as f:
+        return f.read()
 
 
 def wait_until(is_so, seconds=30):
@@ -323,11 +353,17 @@ def check_two(room):
     for kind, environment in locks(room):
         checkout = Checkout(room, "two " + kind)
         before = checkout.builds()
-        both = [checkout.begin("pass", "x", env={**environment, "RT_SLEEP": "4"}) for _ in range(2)]
-        ended = [(*it.communicate(timeout=60), it.returncode) for it in both]
-        said = sorted(err.decode() for _, err, _ in ended)
-        for out, err, status in ended:
-            same((status, out.decode()), (5, "pass x by build %d in %s\n" % (before + 1, room)), (kind, err))
+        gated = {**environment, "RT_GATE": checkout.at("gate")}
+        said = [os.path.join(room, "said %s %d" % (kind, it)) for it in range(2)]
+        both = [checkout.begin("pass", "x", env=gated, stderr=open(it, "w")) for it in said]
+        try:
+            wait_until(lambda: any("waiting" in text_of(it) for it in said))
+        finally:
+            checkout.file("gate", "")
+        for it in both:
+            out, _ = it.communicate(timeout=60)
+            same((it.returncode, out.decode()), (5, "pass <x> by build %d in %s\n" % (before + 1, room)), kind)
+        said = sorted(map(text_of, said))
         same(checkout.builds(), before + 1, kind)
         assert said[0].startswith("muleminute: building pass; ") and said[0].count("\n") == 1, (kind, said)
         assert said[1].startswith("muleminute: waiting for the build in %s of process " % checkout.top), (kind, said)
@@ -337,7 +373,7 @@ def check_two(room):
         same(said[1].count("\n"), 1, kind)
         same(left(checkout), [], kind)
         # Who waits for a build that fails tries it too.
-        failing = {**environment, "RT_SLEEP": "1", "RT_FAILS": "1"}
+        failing = {**environment, "RT_FAILS": "1"}
         both = [checkout.begin("bench", env=failing) for _ in range(2)]
         for it in both:
             out, err = it.communicate(timeout=60)
@@ -357,7 +393,7 @@ def check_killed(room):
             checkout = Checkout(room, "%s %d" % (kind, how))
             before = checkout.builds()
             begun = checkout.begin("pass", env={**environment, "RT_SLOW": "50"}, start_new_session=True)
-            wait_until(lambda: os.path.exists(checkout.at("crates/pass/out/pass")) and os.access(checkout.at("crates/pass/out/pass"), os.X_OK))
+            wait_until(lambda: os.access(checkout.at("crates/pass/out/pass"), os.X_OK))
             os.killpg(begun.pid, how)
             begun.communicate(timeout=30)
             same(len(left(checkout)), 1 if (kind, how) == ("link", signal.SIGKILL) else 0, (kind, how))
@@ -381,12 +417,19 @@ def check_killed(room):
     if shutil.which("flock"):
         checkout = Checkout(room, "going on")
         before = checkout.builds()
-        begun = checkout.begin("pass", env={"RT_SLEEP": "4"}, stdout=subprocess.DEVNULL, stderr=subprocess.DEVNULL)
+        gated, said = {"RT_GATE": checkout.at("gate")}, os.path.join(room, "said")
+        begun = checkout.begin("pass", env=gated, stdout=subprocess.DEVNULL, stderr=subprocess.DEVNULL)
         wait_until(lambda: checkout.builds() == before + 1)
         begun.kill()
         begun.wait(timeout=30)
-        err = checkout.expect(before + 2, what="its build goes on")
-        assert err.startswith("muleminute: waiting for the build in "), err
+        begun = checkout.begin("pass", stderr=open(said, "w"))
+        try:
+            wait_until(lambda: text_of(said).startswith("muleminute: waiting for the build in "))
+            same(checkout.builds(), before + 1, "its build goes on")
+        finally:
+            checkout.file("gate", "")
+        out, _ = begun.communicate(timeout=60)
+        assert begun.returncode == 5 and out.startswith(b"pass by build %d " % (before + 2)), out
 
 
 def is_running(process):
@@ -412,32 +455,46 @@ def check_failing(room):
     status, out, err = checkout.run("bench")
     assert status == 2 and out == "" and err.endswith(":\nnothing done\n"), (status, out, err)
     status, out, err = checkout.run("pass", env={"PATH": tools(room, ())})
-    want = "muleminute: the command 'rt' of the Rattle toolchain is not on the PATH; README.md says which version is needed\n"
-    same((status, out, err), (2, "", want), "no rt")
+    want = "the command 'rt' of the Rattle toolchain is not on the PATH; README.md says which version is needed"
+    same((status, out, err), (2, "", "muleminute: %s\n" % want), "no rt")
 
 
 def check_terminal(room):
     """On a terminal one line says what is done, and is gone in the end."""
-    checkout = Checkout(room)
-    ours, theirs = pty.openpty()
-    begun = checkout.begin("pass", env={"RT_SLEEP": "3", "TERM": "xterm"}, stderr=theirs)
-    os.close(theirs)
-    shown = b""
-    while True:
-        try:
-            more = os.read(ours, 4096)
-        except OSError:
-            break
-        if not more:
-            break
-        shown += more
-    os.close(ours)
-    out, _ = begun.communicate(timeout=60)
-    assert begun.returncode == 5 and out.startswith(b"pass "), (begun.returncode, out, shown)
-    first, rest = shown.decode().split("\n", 1)
-    assert first.startswith("muleminute: building pass; "), shown
-    assert "\n" not in rest and rest.startswith("\r\033[Kmuleminute: building pass: low, 3 of 14\r\033[K"), shown
-    assert rest.endswith("\r\033[K"), shown
+    for terminal in ("xterm", "dumb"):
+        checkout = Checkout(room, terminal)
+        ours, theirs = pty.openpty()
+        gate = checkout.at("gate")
+        begun = checkout.begin("pass", env={"RT_GATE": gate, "TERM": terminal}, stderr=theirs)
+        if terminal == "dumb":
+            # (it would show something after one second)
+            time.sleep(3)
+            checkout.file("gate", "")
+        os.close(theirs)
+        shown = b""
+        while True:
+            try:
+                more = os.read(ours, 4096)
+            except OSError:
+                break
+            if not more:
+                break
+            shown += more
+            if b"3 of 14" in shown:
+                checkout.file("gate", "")
+        os.close(ours)
+        out, _ = begun.communicate(timeout=60)
+        assert begun.returncode == 5 and out.startswith(b"pass "), (begun.returncode, out, shown)
+        first, rest = shown.decode().split("\n", 1)
+        assert first.startswith("muleminute: building pass; "), shown
+        if terminal == "dumb":
+            same(rest, "", terminal)
+        else:
+            clear = "\r\033[K"
+            lines = rest.split(clear)
+            assert lines[0] == "" and lines[-1] == "" and "\n" not in rest, shown
+            # (the log may have been empty at first)
+            assert lines[-2] == "muleminute: building pass: low, 3 of 14", shown
 
 
 def readers(room):
@@ -447,8 +504,7 @@ def readers(room):
     os.chmod(probe, 0o555)
     for before in ((), ("setpriv", "--reuid=65534", "--regid=65534", "--clear-groups", "--")):
         try:
-            done = subprocess.run([*before, "sh", "-c", "ls . && ! (: >\"$1\")", "sh", os.path.join(probe, "x")], cwd=room,
-                                  stdout=subprocess.DEVNULL, stderr=subprocess.DEVNULL)
+            done = subprocess.run([*before, "sh", "-c", "ls . && ! (: >probe/x)"], cwd=room, capture_output=True)
         except OSError:
             continue
         if done.returncode == 0:
@@ -461,7 +517,7 @@ def check_read_only(room):
     os.chmod(room, 0o755)
     before = readers(room)
     if before is None:
-        print("launcher: this user can write everywhere and can be no other, so read-only checkouts are left out", file=sys.stderr)
+        print("launcher: this user can write everywhere, so read-only checkouts are left out", file=sys.stderr)
         return
     checkout = Checkout(room)
 
@@ -476,8 +532,8 @@ def check_read_only(room):
         files = checkout.everything()
         status, out, err = checkout.run("pass", before=before)
         same(checkout.everything(), files, "files")
-        want = "muleminute: pass %s, and it cannot be built here, as nothing can be written in %s\n" % (word, checkout.top)
-        assert status == 2 and out == "" and err.startswith(want), (status, out, err)
+        want = "pass %s, and it cannot be built here, as nothing can be written in %s\n" % (word, checkout.top)
+        assert status == 2 and out == "" and err.startswith("muleminute: " + want), (status, out, err)
         assert "run '%s pass --version' once" % checkout.launcher in err and err.count("\n") == 2, err
 
     close(True)
@@ -506,41 +562,44 @@ def check_read_only(room):
     close(False)
 
 
-def check_real():
-    """The crates of this repository: each program stands on the crates that crates.txt names, and no other."""
+def check_real(room):
+    """The crates of this repository: each program is built from those that it stands on by crates.txt, and no other."""
     below = {}
     with open(os.path.join(TOP, "crates.txt")) as f:
         for line in f:
             name, colon, rest = line.partition("#")[0].partition(":")
             if colon:
                 below[name.split()[0]] = rest.split()
+    for program in ("pass", "bench"):
+        checkout = Checkout(room, program)
+        shutil.copy(os.path.join(TOP, "crates.txt"), checkout.top)
+        for name in below:
+            checkout.file("crates/%s/src/lib.rt" % name, "// %s\n" % name)
+        checkout.run(program)
+        with open(checkout.at("crates/%s/out/%s.sources" % (program, program))) as f:
+            got = {line.split("/")[1] for line in f if "/src/lib.rt" in line}
+        want, todo = set(), [program]
+        while todo:
+            name = todo.pop()
+            if name in below and name not in want:
+                want.add(name)
+                todo += below[name]
+        same(sorted(got), sorted(want), program)
+
+
+def in_room(check):
     with tempfile.TemporaryDirectory() as room:
-        room = os.path.realpath(room)
-        for program in ("pass", "bench"):
-            checkout = Checkout(room, program)
-            shutil.copy(os.path.join(TOP, "crates.txt"), checkout.top)
-            for name in below:
-                checkout.file("crates/%s/src/lib.rt" % name, "// %s\n" % name)
-            checkout.run(program)
-            with open(checkout.at("crates/%s/out/%s.sources" % (program, program))) as f:
-                got = {line.split("/")[1] for line in f if "/src/lib.rt" in line}
-            want, todo = set(), [program]
-            while todo:
-                name = todo.pop()
-                if name in below and name not in want:
-                    want.add(name)
-                    todo += below[name]
-            same(sorted(got), sorted(want), program)
+        check(os.path.realpath(room))
 
 
 def main():
-    checks = (check_words, check_building, check_sources, check_stamp, check_links, check_two, check_killed, check_failing,
-              check_terminal, check_read_only)
-    for check in checks:
-        with tempfile.TemporaryDirectory() as room:
-            check(os.path.realpath(room))
-    check_real()
-    print("the launcher builds when it has to, and only then: %d groups of checks" % (len(checks) + 1))
+    checks = (check_words, check_building, check_sources, check_stamp, check_links, check_two, check_killed,
+              check_failing, check_terminal, check_read_only, check_real)
+    with ProcessPoolExecutor(4) as pool:
+        # (each mostly waits)
+        for ended in [pool.submit(in_room, check) for check in checks]:
+            ended.result()
+    print("the launcher builds when it has to, and only then: %d groups of checks" % len(checks))
 
 
 if __name__ == "__main__":
