@@ -1,14 +1,15 @@
 -- When a circuit that was read is passed, why it is turned away, and its shortest period.
-use Rattle.std.specs.Prelude.{◌≡◌, ℕ, ◌+◌, ◌-◌, ◌^◌, min, Bool, true, false, List, Some, None, Option, codes}
+use Rattle.std.specs.Prelude.{◌≡◌, ℕ, Bool, true, false, Some, None, Option, slice_get}
 use Rattle.std.specs.Option.{unwrap_or}
 use Rattle.circuit.specs.Whole.{Whole}
+use Rattle.circuit.specs.declared.circuit.Circuit.{Circuit}
 use Rattle.circuit.specs.Refused.{FirstRefusal}
 use Rattle.circuit.specs.declared.refusal.Refusal.{Refusal}
 use Rattle.detail.specs.declared.Detail.{Detail}
 use Rattle.detail.specs.declared.Detail.TheVariants as detail
-use Rattle.lines.specs.Words.{lines}
 use Rattle.reason.specs.Reason.{TrueOf}
-use Rattle.text.specs.Meaning.{Drafted, refusal_of, line_of}
+use Rattle.text.specs.Meaning.{Drafted, refusal_of}
+use Rattle.text.specs.Reader.{Listed, Placed}
 use Rattle.text.specs.declared.draft.Miscount.{Miscount}
 use Rattle.wording.specs.Words.{miscount_words}
 use Rattle.wording.specs.declared.Refused.{Refused}
@@ -25,33 +26,34 @@ machine_of d = machine_in d.gates d.registers d.times
 abbrev pub Taken : Drafted → Type 0
 Taken d = (d.miscount ≡ None) × Whole d.gates d.registers d.times
 
+-- a checked circuit has the numbers that were read
+abbrev pub HasNumbers : Drafted → Circuit → Type 0
+HasNumbers d c = (c.gates.now ≡ d.gates) × (c.registers.now ≡ d.registers) × (c.times.now ≡ d.times)
+
 -- b says whether it is turned away
 abbrev pub TurnedAwayIf : Drafted → Bool → Type 0
 TurnedAwayIf d true = Taken d → ⊥
 TurnedAwayIf d false = Taken d
 
--- the number, counted from 1, of the line of a text t that a detail is about: of its gate, register or times
-abbrev pub line_about : (t : List ℕ) → Detail → Option ℕ
-line_about t (detail.Gate k x) = line_of (codes "gate") k 1 (lines t)
-line_about t (detail.Register r x) = line_of (codes "register") r 1 (lines t)
-line_about t (detail.Times x) = line_of (codes "times") 0 1 (lines t)
-line_about t x = None
+-- the number of the line that a detail is about: of its gate, register or times
+abbrev pub line_about : Placed → Detail → Option ℕ
+line_about p (detail.Gate k x) = slice_get p.gates k
+line_about p (detail.Register r x) = slice_get p.registers r
+line_about p (detail.Times x) = slice_get p.times 0
+line_about p x = None
 
--- line n of a text that stands behind so many lines, as it is told
-abbrev pub behind : (before n : ℕ) → ℕ
-behind before n = min (n + before) (2 ^ 64 - 1)
-
--- d was read from t, behind so many lines. The refusal e is that of the line that is miscounted, which is told; or there is no
+-- of a circuit that was read with its lines: the refusal e is that of the line that is miscounted, which is told; or there is no
 -- such line, e is the first of the list that applies to the numbers, the detail is one of e and true of them, and the line
 -- that is told is the one that it is about, or else the one on which the circuit began
-abbrev pub FirstOf : Drafted → (t : List ℕ) (before : ℕ) → (e : Refusal) → (line : ℕ) → Why → Type 0
-FirstOf d t before e line (why.Miscount words) = (m : Miscount) × (d.miscount ≡ Some m) × (e ≡ refusal_of m.part) × (words.now ≡ miscount_words m.part) × (line ≡ behind before m.line)
-FirstOf d t before e line (why.Detail x) =
-    (d.miscount ≡ None) × FirstRefusal d.gates d.registers d.times e × TrueOf d.gates d.registers d.times e x
-    × (line ≡ behind before (unwrap_or (line_about t x) d.line))
+abbrev pub FirstOf : Listed → (e : Refusal) → (line : ℕ) → Why → Type 0
+FirstOf l e line (why.Miscount words) =
+    (m : Miscount) × (l.draft.miscount ≡ Some m) × (e ≡ refusal_of m.part) × (words.now ≡ miscount_words m.part) × (line ≡ m.line)
+FirstOf l e line (why.Detail x) =
+    (l.draft.miscount ≡ None) × FirstRefusal l.draft.gates l.draft.registers l.draft.times e
+    × TrueOf l.draft.gates l.draft.registers l.draft.times e x × (line ≡ unwrap_or (line_about l.places x) l.draft.line)
 
-abbrev pub RefusedFirst : Drafted → (t : List ℕ) (before : ℕ) → Refused → Type 0
-RefusedFirst d t before x = FirstOf d t before x.what.refusal x.line x.what.why
+abbrev pub RefusedFirst : Listed → Refused → Type 0
+RefusedFirst l x = FirstOf l x.what.refusal x.line x.what.why
 
 -- it is taken, and both sums are right at every register
 abbrev pub Fit : Drafted → Type 0

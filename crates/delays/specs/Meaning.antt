@@ -124,9 +124,12 @@ ReadOnce l o o' x r = MatchResult x (λ y. ToldOnce l o o' y r) (λ e. r ≡ Err
 abbrev pub LineStated : Result Told Expected → ℕ → Told → Result (Unit {0}) Fault → Type 0
 LineStated o n t r = MatchResult r (λ _. o ≡ Ok t) (λ f. (f.line ≡ n) × ((f.expected ≡ Memory) ⊎ (o ≡ Err f.expected)))
 
--- the code's answer r for all lines of a text, the count of cycles, with what it says after it
-abbrev pub LinesStated : Outcome → Told → Result ℕ Fault → Type 0
-LinesStated o t r = MatchResult r (λ n. (o ≡ Ok t) × (t.cycles ≡ Some n)) (λ f. (f.expected ≡ Memory) ⊎ (o ≡ Err f))
+-- the code's answer r for line n, of the text l, of a circuit with q registers, with what is told before and after it: whatever
+-- lines follow, they mean the same behind the line as behind what is told after it; or the line is the first fault
+abbrev pub ReadsLine : (q : ℕ) → Told → (l : List ℕ) (n : ℕ) → Told → Result (Unit {0}) Fault → Type 0
+ReadsLine q t l n t' r =
+    (ls : List (List ℕ)) →
+    MatchResult r (λ _. meaning q n t (l ∷ ls) ≡ meaning q (n + 1) t' ls) (λ f. (f.expected ≡ Memory) ⊎ (meaning q n t (l ∷ ls) ≡ Err f))
 
 -- the code's answer r for a value, or what was expected or want of memory
 abbrev pub Valued : {A B : Type 0} → (A → B) → Result B Expected → Result A Expected → Type 0

@@ -1,15 +1,14 @@
 // Texts of delays and all else that a bench is told, read.
 #![tactic(auto)]
 
-ghost use Rattle.std.specs.Prelude.{◌≡◌, ◌-◌, ◌<◌, Some};
-ghost use Rattle.lines.specs.Words.{words, bare, lines};
+ghost use Rattle.std.specs.Prelude.{◌≡◌, ◌-◌, [], Some};
+ghost use Rattle.lines.specs.Words.{words, bare};
 ghost use Rattle.delays.specs.Row.{and_then};
-ghost use Rattle.delays.specs.Meaning.{nothing, drafted, added, said, statement, meaning, Stated, LineStated, LinesStated, ReadOnce, IsRead};
+ghost use Rattle.delays.specs.Meaning.{nothing, drafted, added, said, statement, meaning, Stated, LineStated, ReadOnce, IsRead, ReadsLine};
 ghost use Rattle.delays.specs.ByLines.{FaultIsFirst, ToldByLines, ToldOfGate};
 
 use draft::Draft;
 use fields::{Expected, Fault, Line};
-use lines::Lines;
 use script::{Entry, Kind, Script};
 use std::alloc::Global;
 
@@ -118,35 +117,59 @@ impl Draft {
         line: usize,
         registers: usize,
     ) -> Result<(), Fault>
-        requires { 0 < line }
         ensures { LineStated (statement registers (line - 1) (drafted self.old) (words (bare text.now))) line (drafted self.new) result }
     {
-        self.statement(heap, lines::bare(text), line - 1, registers)
+        self.statement(heap, lines::bare(text), line.saturating_sub(1), registers)
             .map_err(|expected| Fault { line, expected })
-    }
-
-    // Takes all lines of a text, and answers the count of cycles, which has to be told.
-    fn lines(&mut self, heap: Global, text: &[u8], registers: usize) -> Result<u32, Fault>
-        ensures { LinesStated (meaning registers 1 (drafted self.old) (lines text.now)) (drafted self.new) result }
-    {
-        let mut rest = Lines::new(text);
-        while let Some((line, text)) = rest.next() {
-            self.line(heap, text, line, registers)?;
-        }
-        self.cycles.ok_or(Fault {
-            line: rest.number,
-            expected: Expected::Cycles,
-        })
     }
 }
 
-// All that a text tells of a circuit with so many registers.
-pub fn read(heap: Global, text: &[u8], registers: usize) -> Result<Script, Fault>
-    ensures { IsRead (meaning registers 1 nothing (lines text.now)) result }
-{
-    let mut draft = Draft::new(heap);
-    draft.script.cycles = draft.lines(heap, text, registers)?;
-    Ok(draft.script)
+/// Reads a text of delays, clocks and all else that is told to a run, line by line, for a circuit with `registers` registers.
+#[derive(Drop)]
+pub struct Reader {
+    heap: Global,
+    registers: usize,
+    draft: Draft,
+}
+
+impl Reader {
+    /// A reader at a text's beginning.
+    pub fn new(heap: Global, registers: usize) -> Reader
+        ensures registers { result.registers ≡ registers }
+        ensures nothing { drafted result.draft ≡ nothing }
+    {
+        Reader {
+            heap,
+            registers,
+            draft: Draft::new(heap),
+        }
+    }
+
+    /// Takes one line more, with its number, counted from 1; what is read is what the text means, line after line. After a fault
+    /// nothing more is to be read.
+    pub fn line(&mut self, text: &[u8], line: usize) -> Result<(), Fault>
+        ensures registers { self.new.registers ≡ self.old.registers }
+        ensures line { ReadsLine self.old.registers (drafted self.old.draft) text.now line (drafted self.new.draft) result }
+    {
+        self.draft.line(self.heap, text, line, self.registers)
+    }
+
+    /// All that was told, where the text ends before this line: a count of cycles has to be among it.
+    pub fn finish(self, line: usize) -> Result<Script, Fault>
+        ensures { IsRead (meaning self.registers line (drafted self.draft) []) result }
+    {
+        let Draft { cycles, mut script } = self.draft;
+        match cycles {
+            Some(cycles) => {
+                script.cycles = cycles;
+                Ok(script)
+            }
+            None => Err(Fault {
+                line,
+                expected: Expected::Cycles,
+            }),
+        }
+    }
 }
 
 // A text with no fault tells what its lines tell: each value that is told once on the one line that tells it, and the

@@ -8,10 +8,17 @@ use std::fmt;
 #[derive(Clone, Copy)]
 struct Fault(&'static str, u32, &'static str, Option<u32>);
 
+// The largest number that is read of a text: a larger one is read as this one.
+const CAP: u32 = u32::MAX;
+
+// As many times are kept of a text that has two lines of them or more.
+const TIMES_OF_TWO: usize = 10;
+
 impl fmt::Display for Fault {
     fn fmt<W: fmt::Write>(&self, f: &mut fmt::Formatter<W>) -> fmt::Result {
         let Fault(what, number, said, other) = self;
-        write!(f, "{what} {number} {said}")?;
+        let more = if *number == CAP { " or more" } else { "" };
+        write!(f, "{what} {number}{more} {said}")?;
         match other {
             Some(other) => write!(f, " {other}"),
             None => Ok(()),
@@ -116,9 +123,13 @@ impl fmt::Display for Detail {
                 n,
                 "numbers are not three for each register",
             ),
+            Detail::TimeNumbers(n) if n >= TIMES_OF_TWO => {
+                put_count(f, TIMES_OF_TWO, "times or more are not five")
+            }
             Detail::TimeNumbers(n) => put_count(f, n, "times are not five"),
-            Detail::Registers(n) => write!(f, "{n} registers are not 1 to {MOST_REGISTERS}"),
-            Detail::Gates(n) => write!(f, "{n} gates are more than {MOST_GATES}"),
+            Detail::Registers(0) => write!(f, "0 registers are not 1 to {MOST_REGISTERS}"),
+            Detail::Registers(_) => write!(f, "more than {MOST_REGISTERS} registers"),
+            Detail::Gates(_) => write!(f, "more than {MOST_GATES} gates"),
             Detail::Gate(k, detail) => put_place(f, "gate", k, detail.fault()),
             Detail::Register(r, detail) => put_place(f, "register", r, detail.fault()),
             Detail::Times(detail) => detail.fault().fmt(f),
