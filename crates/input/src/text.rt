@@ -1,5 +1,5 @@
 // What was read of a text and is not handed out yet.
-ghost use Rattle.std.specs.Prelude.{◌≡◌, ℕ, ◌+◌, ◌≤◌, ◌==◌, not, true, false, IfErr, IfOk, IsTrue, ◌↔◌, OnErr, OnOk, List, [], ◌++◌, drop, length, take, vec_items};
+ghost use Rattle.std.specs.Prelude.{◌≡◌, ℕ, ◌+◌, ◌-◌, ◌^◌, ◌≤◌, min, ◌==◌, not, true, false, IfErr, IfOk, IsTrue, ◌↔◌, OnErr, OnOk, List, [], ◌++◌, drop, length, take, vec_items};
 ghost use Rattle.std.specs.List.{list_all, prefix_len};
 ghost use Rattle.lines.specs.Words.{inline};
 ghost use Rattle.input.specs.Line.{kept, shown};
@@ -55,13 +55,20 @@ impl From<AllocError> for Misread {
     }
 }
 
+// Whether a line can have a byte before its comment.
+fn is_kept(b: u8) -> bool
+    ensures { result ≡ kept b }
+{
+    b != b'\n' && b != b'#' && b != 0
+}
+
 // How many bytes stand before the first newline, number sign or NUL.
 fn kept(s: &[u8]) -> usize
     ensures count { result ≡ prefix_len kept s.now }
     ensures within { result ≤ length s.now }
 {
     let mut n = 0;
-    while n < s.len() && s[n] != b'\n' && s[n] != b'#' && s[n] != 0 {
+    while n < s.len() && is_kept(s[n]) {
         n += 1;
     }
     n
@@ -99,7 +106,7 @@ pub(crate) struct Text {
 }
 
 impl Text {
-    ghost use Rattle.input.specs.Pending.{at_hand, pending, Same, SameLines, Comes, Faults};
+    ghost use Rattle.input.specs.Pending.{at_hand, pending, number_of, Same, SameLines, Comes, Faults};
 
     pub(crate) fn new(heap: Global) -> Self
         ensures { (pending result ≡ []) × (result.ended ≡ false) × (result.number ≡ 0) × (result.whole ≡ false) }
@@ -196,6 +203,16 @@ impl Text {
         }
     }
 
+    // Hands out the line as it is.
+    fn count(&mut self)
+        ensures counted { self.new.number ≡ min (self.old.number + 1) (2 ^ 64 - 1) }
+        ensures whole { self.new.whole ≡ true }
+        ensures kept { (self.new.line ≡ self.old.line) × (self.new.chunk ≡ self.old.chunk) × (self.new.at ≡ self.old.at) × (self.new.ended ≡ self.old.ended) }
+    {
+        self.whole = true;
+        self.number = self.number.saturating_add(1);
+    }
+
     // Hands out the line, if what was read has its end.
     fn hand_out(&mut self) -> Next
         requires whole { self.old.whole ≡ false }
@@ -204,13 +221,16 @@ impl Text {
     {
         if self.at < self.chunk.len() {
             self.at += 1;
-        } else if !self.ended {
+            self.count();
+            return Next::Line;
+        }
+        if !self.ended {
             return Next::Nothing;
-        } else if self.line.is_empty() && !self.comment {
+        }
+        if self.line.is_empty() && !self.comment {
             return Next::End;
         }
-        self.whole = true;
-        self.number = self.number.saturating_add(1);
+        self.count();
         Next::Line
     }
 
@@ -232,8 +252,6 @@ impl Text {
         }
         &self.line
     }
-
-    ghost use Rattle.input.specs.Pending.{number_of};
 
     pub(crate) fn number(&self) -> usize
         ensures { result ≡ number_of self.now }
