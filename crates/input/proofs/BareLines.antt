@@ -1,5 +1,5 @@
 -- The lines of a text that is cut somewhere, without their comments.
-use Rattle.std.proofs.Common.{◌≡◌, ℕ, suc, ◌+◌, ◌<◌, ◌≤◌, ◌==◌, Bool, true, false, not, ◌&&◌, List, [], ◌∷◌, ◌++◌, length, get_or, take, drop, map, sym, refl, ap, ◌∙◌, inl, inr, eqb-true, append_assoc, length-append, one-add, arith}
+use Rattle.std.proofs.Common.{◌≡◌, ℕ, suc, ◌+◌, ◌<◌, ◌≤◌, ◌==◌, Bool, true, false, not, ◌&&◌, List, [], ◌∷◌, ◌++◌, length, get_or, take, drop, map, sym, refl, ap, ◌∙◌, inl, inr, eqb-true, ne_eqb, append_assoc, length-append, one-add, arith}
 use Rattle.std.specs.List.{list_all, prefix_len, Contains}
 use Rattle.std.proofs.lemmas.Bool.{cases_Bool, and_parts, and_from, true≢false}
 use Rattle.std.proofs.lemmas.List.{append-nil, take-append-drop, drop_more}
@@ -102,8 +102,8 @@ begins : (s : List ℕ) → prefix_len inline s ≡ 0 → 0 < length s → s ≡
 begins [] e h = absurd (omega arith)
 begins (b ∷ bs) e h =
     elim (cases_Bool (b == 10)) [
-      | inl yes ↦ ap (λ x. x ∷ bs) (eqb-true b 10 yes)
-      | inr no ↦ absurd (let z : 1 + prefix_len inline bs ≡ 0 = simp no at e in omega arith)
+      | inl t ↦ ap (λ x. x ∷ bs) (eqb-true b 10 t)
+      | inr f ↦ absurd (let z : 1 + prefix_len inline bs ≡ 0 = simp f at e in omega arith)
     ]
 
 plain_newline : (l r more : List ℕ) → list_all open_byte l ≡ true → bare_lines ((l ++ 10 ∷ r) ++ more) ≡ l ∷ bare_lines (r ++ more)
@@ -135,11 +135,21 @@ no_lines = refl
 pub no_nul : (l : List ℕ) → list_all kept l ≡ true → Contains l 0 → ⊥
 no_nul l h c = true≢false (sym (ap kept (sym c.2) ∙ AllPass-from_list_all kept l h c.0 0 c.1))
 
+-- a line goes on with what stands before its end and its comment
+pub longer : (l s : List ℕ) → list_all kept l ≡ true → list_all kept (l ++ take (prefix_len kept s) s) ≡ true
+longer l s h = list_all-append kept l (take (prefix_len kept s) s) ∙ and_from _ _ h (passes kept s)
+
+-- behind that stands a newline, if no NUL or number sign does
+pub at_stop : (r : List ℕ) → prefix_len kept r ≡ 0 → (get_or r 0 10 ≡ 0 → ⊥) → (get_or r 0 10 ≡ 35 → ⊥) → prefix_len inline r ≡ 0
+at_stop [] e nul mark = refl
+at_stop (b ∷ bs) e nul mark =
+    elim (cases_Bool (b == 10)) [
+      | inl t ↦ simp t
+      | inr f ↦ absurd (let z : 1 + prefix_len kept bs ≡ 0 = simp (f, ne_eqb b 35 mark, ne_eqb b 0 nul) at e in omega arith)
+    ]
+
 -- what is wrong with a line whose beginning is l, and s follows
 module _ (l s more : List ℕ) (h : list_all kept l ≡ true) where
-  longer : list_all kept (l ++ take (prefix_len kept s) s) ≡ true
-  longer = list_all-append kept l (take (prefix_len kept s) s) ∙ and_from _ _ h (passes kept s)
-
   cut : (l ++ s) ++ more ≡ (l ++ take (prefix_len kept s) s) ++ (drop (prefix_len kept s) s ++ more)
   cut =
       let c = take (prefix_len kept s) s in
@@ -152,15 +162,15 @@ module _ (l s more : List ℕ) (h : list_all kept l ≡ true) where
       let t = drop (prefix_len kept s) s ++ more in
       let size : length p ≡ length l + prefix_len kept s = length-append l (take (prefix_len kept s) s) ∙ ap (λ n. length l + n) (length-prefix_len kept s) in
       let whole : length (p ++ bare (front (lines t))) ≡ length p + length (bare (front (lines t))) = length-append p (bare (front (lines t))) in
-      (p ++ bare (front (lines t)), (map bare (others (lines t)), ap bare_lines cut ∙ first p t (omega (arith, size, long)) (opens p longer)), omega (arith, size, whole, long))
+      (p ++ bare (front (lines t)), (map bare (others (lines t)), ap bare_lines cut ∙ first p t (omega (arith, size, long)) (opens p (longer l s h))), omega (arith, size, whole, long))
 
   pub nul : prefix_len kept s < length s → get_or s (prefix_len kept s) 0 ≡ 0 → (w : List ℕ) × First w ((l ++ s) ++ more) × Contains w 0
   nul within zero =
       let p = l ++ take (prefix_len kept s) s in
       let q = p ++ 0 ∷ [] in
       let t = drop (prefix_len kept s + 1) s ++ more in
-      let at : drop (prefix_len kept s) s ≡ 0 ∷ drop (prefix_len kept s + 1) s = drop_more (prefix_len kept s) s 0 within ∙ ap (λ x. x ∷ drop (prefix_len kept s + 1) s) zero in
-      let open_q : list_all open_byte q ≡ true = list_all-append open_byte p (0 ∷ []) ∙ and_from _ _ (opens p longer) refl in
+      let at : drop (prefix_len kept s) s ≡ 0 ∷ drop (prefix_len kept s + 1) s = drop_more s (prefix_len kept s) 0 within ∙ ap (λ x. x ∷ drop (prefix_len kept s + 1) s) zero in
+      let open_q : list_all open_byte q ≡ true = list_all-append open_byte p (0 ∷ []) ∙ and_from _ _ (opens p (longer l s h)) refl in
       let e : (l ++ s) ++ more ≡ q ++ t = cut ∙ ap (λ x. p ++ (x ++ more)) at ∙ sym (append_assoc p (0 ∷ []) t) in
       let here : Contains (p ++ 0 ∷ []) 0 = Contains-append_right p (0 ∷ []) 0 (0, omega arith, refl) in
       (q ++ bare (front (lines t)), (map bare (others (lines t)), ap bare_lines e ∙ first q t (omega (arith, length-append p (0 ∷ []))) open_q), Contains-append_left q (bare (front (lines t))) 0 here)

@@ -1,1 +1,2 @@
 pub mod BareLines
+pub mod Steps

@@ -1,5 +1,5 @@
 // What was read of a text and is not handed out yet.
-ghost use Rattle.std.specs.Prelude.{◌≡◌, ℕ, ◌+◌, ◌-◌, ◌^◌, ◌≤◌, min, ◌==◌, not, true, false, IfErr, IfOk, IsTrue, ◌↔◌, OnErr, OnOk, List, [], ◌++◌, drop, length, take, vec_items};
+ghost use Rattle.std.specs.Prelude.{◌≡◌, ℕ, ◌+◌, ◌-◌, ◌^◌, ◌≤◌, min, ◌==◌, not, true, false, IfErr, IfOk, IsTrue, ◌↔◌, OnErr, OnOk, List, [], ◌++◌, drop, length, slice_index_or, take, vec_items};
 ghost use Rattle.std.specs.List.{list_all, prefix_len};
 ghost use Rattle.lines.specs.Words.{inline};
 ghost use Rattle.input.specs.Line.{kept, shown};
@@ -84,6 +84,22 @@ fn before_newline(s: &[u8]) -> usize
         n += 1;
     }
     n
+}
+
+// The byte at an index; a newline where there is none.
+fn byte_at(s: &[u8], i: usize) -> u8
+    ensures { result ≡ slice_index_or s.now i 10 }
+{
+    if i < s.len() { s[i] } else { b'\n' }
+}
+
+// Appends n bytes of a piece, from an index on.
+fn append(line: &mut Vec<u8>, piece: &[u8], from: usize, n: usize) -> Result<(), AllocError>
+    requires { from + n ≤ length piece.now }
+    ensures ok { OnOk result (vec_items line.new ≡ vec_items line.old ++ take n (drop from piece.now)) }
+    ensures err { OnErr result (vec_items line.new ≡ vec_items line.old) }
+{
+    line.extend_from_slice(&piece[from..from + n])
 }
 
 // The piece that was read last, which is still needed from `at` on; and the line so far, or the one that was handed out.
@@ -177,15 +193,15 @@ impl Text {
         if n > LIMIT - self.line.len() {
             return Err(Misread::TooLong);
         }
-        let end = self.at + n;
-        if self.chunk.get(end) == Some(&0) {
+        let stop = byte_at(&self.chunk, self.at + n);
+        if stop == 0 {
             return Err(Misread::Nul);
         }
-        self.line.extend_from_slice(&self.chunk[self.at..end])?;
-        self.at = end;
-        if self.chunk.get(end) == Some(&b'#') {
+        append(&mut self.line, &self.chunk, self.at, n)?;
+        self.at += n;
+        if stop == b'#' {
             self.comment = true;
-            self.at = end + 1;
+            self.at += 1;
         }
         Ok(())
     }
@@ -239,7 +255,9 @@ impl Text {
         ensures fault { IfErr result (λ e. Faults self.old e × Same self.old self.new × (self.new.whole ≡ false)) }
     {
         self.forget();
-        self.take()?;
+        if let Err(e) = self.take() {
+            return Err(e);
+        }
         self.pass();
         Ok(self.hand_out())
     }
