@@ -1,8 +1,9 @@
 -- What one step of `next` makes of a text.
-use Rattle.std.proofs.Common.{◌≡◌, ℕ, ◌+◌, ◌-◌, ◌^◌, ◌<◌, ◌≤◌, min, ◌==◌, ◌⊎◌, ⊎_elim, eqb-false, Bool, true, false, cond, List, [], ◌∷◌, ◌++◌, length, get_or, take, drop, vec_items, sym, refl, ap, ◌∙◌, append_assoc, length-append, length-drop, arith}
+use Rattle.std.proofs.Common.{◌≡◌, ℕ, ◌+◌, ◌-◌, ◌^◌, ◌<◌, ◌≤◌, min, ◌==◌, ◌⊎◌, ⊎_elim, Bool, true, false, cond, List, [], ◌∷◌, ◌++◌, length, get_or, take, drop, vec_items, sym, refl, ap, ◌∙◌, append_assoc, length-append, length-drop, arith}
 use Rattle.std.specs.List.{list_all, prefix_len}
 use Rattle.std.proofs.lemmas.List.{append-nil, take-append-drop, drop_more, drop-drop, drop_all, get_or-drop, get_or_past, get_or_default, nil_from_length}
-use Rattle.std.proofs.lemmas.Bool.{cases_lt}
+use Rattle.std.proofs.lemmas.Bool.{cases_lt, eqb-false}
+use Rattle.std.proofs.lemmas.List.Folds.{length-prefix_len}
 use Rattle.lines.specs.Words.{inline}
 use Rattle.input.specs.declared.text.Text.{Text}
 use Rattle.input.specs.declared.text.Next.{Next}
@@ -118,6 +119,24 @@ module _ (t : Text) (n : ℕ) (going : t.whole ≡ false) (plain : t.comment ≡
       let first : get_or r 0 10 ≡ get_or (vec_items t.chunk) (t.at + n) 10 = get_or-drop (t.at + n) (vec_items t.chunk) 0 10 ∙ ap (λ k. get_or (vec_items t.chunk) k 10) (omega arith) in
       let none : prefix_len kept r ≡ 0 = ap (prefix_len kept) (past t n ∙ ap (λ k. drop k (at_hand t)) n_is) ∙ stops kept (at_hand t) in
       at_stop r none (λ e. zero (sym first ∙ e)) (λ e. mark (sym first ∙ e))
+
+-- what is kept of what is at hand goes to the line
+module _ (t : Text) (n : ℕ) (n_is : n ≡ prefix_len kept (at_hand t)) (line piece : List ℕ) (piece_is : piece ≡ vec_items t.chunk) (line_is : line ≡ vec_items t.line ++ take n (drop t.at piece)) where
+  pub line_goes_on : line ≡ vec_items t.line ++ take n (at_hand t)
+  line_goes_on = line_is ∙ ap (λ x. vec_items t.line ++ take n (drop t.at x)) piece_is
+
+  with_kept : line ≡ vec_items t.line ++ take (prefix_len kept (at_hand t)) (at_hand t)
+  with_kept = line_goes_on ∙ ap (λ k. vec_items t.line ++ take k (at_hand t)) n_is
+
+  pub still_clean : list_all kept line ≡ true
+  still_clean = ap (list_all kept) with_kept ∙ longer (vec_items t.line) (at_hand t) t.clean
+
+  pub still_short : n + length (vec_items t.line) ≤ 1048576 → length line ≤ 1048576
+  still_short fits =
+      let k = prefix_len kept (at_hand t) in
+      let size : length line ≡ length (vec_items t.line) + length (take k (at_hand t)) = ap length with_kept ∙ length-append (vec_items t.line) (take k (at_hand t)) in
+      let count : length (take k (at_hand t)) ≡ k = length-prefix_len kept (at_hand t) in
+      omega (arith, size, count, n_is, fits)
 
 -- a step before that changes no line
 pub comes_from : (t m u : Text) → SameLines (pending t) (pending m) → m.ended ≡ t.ended → m.number ≡ t.number → (n : Next) → Comes m u n → Comes t u n

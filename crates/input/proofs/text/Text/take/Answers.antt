@@ -1,10 +1,9 @@
-use Rattle.std.proofs.Common.{◌≡◌, ℕ, ◌+◌, ◌<◌, List, ◌++◌, length, get_or, take, drop, vec_items, sym, refl, ap, ◌∙◌, length-append, length-drop, arith}
+use Rattle.std.proofs.Common.{◌≡◌, ℕ, ◌+◌, ◌<◌, ◌≤◌, List, ◌++◌, length, get_or, take, drop, vec_items, sym, refl, ap, ◌∙◌, length-append, length-drop, arith}
 use Rattle.std.specs.List.{list_all, prefix_len}
-use Rattle.std.proofs.lemmas.List.Folds.{length-prefix_len}
+use Rattle.std.proofs.lemmas.List.Sums.{prefix_len-le-length}
 use Rattle.input.specs.Line.{kept}
 use Rattle.input.specs.Pending.{at_hand}
-use Rattle.input.proofs.BareLines.{longer}
-use Rattle.input.proofs.Steps.{is_too_long, is_nul, moves, moves_to_comment, moves_to_stop, stands}
+use Rattle.input.proofs.Steps.{is_too_long, is_nul, moves, moves_to_comment, moves_to_stop, stands, line_goes_on, still_clean, still_short}
 use Rattle.input.proofs.text.Text.take.Goals as goal
 
 pub returns-then-n-len-clause-fault : goal.returns-then-n-len-clause-fault
@@ -20,10 +19,59 @@ returns-then-stop-eq0-clause-fault c =
     is_nul t c.requires c.if-self.false (ap (λ n. get_or (vec_items t.chunk) (t.at + n) 10) (sym n_is) ∙ ap (λ x. get_or x (t.at + c.kept-n.result) 10) (sym c.deref.ensures.value) ∙ sym c.byte_at-stop.ensures ∙ c.if-stop-eq0.true)
 
 pub invariant_of-self-then-stop-eq35 : goal.invariant_of-self-then-stop-eq35
-invariant_of-self-then-stop-eq35 c = ?
+invariant_of-self-then-stop-eq35 c =
+    let t = c.args.self.now in
+    let n = c.kept-n.result in
+    let n_is : n ≡ prefix_len kept (at_hand t) = c.kept-n.ensures.count ∙ ap (prefix_len kept) c.at_hand.ensures in
+    let byte : c.byte_at-stop.result ≡ get_or (vec_items t.chunk) (t.at + n) 10 = c.byte_at-stop.ensures ∙ ap (λ x. get_or x (t.at + n) 10) c.deref.ensures.value in
+    let lt : t.at + n < length (vec_items t.chunk) = stands (vec_items t.chunk) (t.at + n) 35 (sym byte ∙ c.if-stop-eq35.true) (λ e. absurd (omega (arith, e))) in
+    record {
+      within = omega (arith, lt);
+      clean = still_clean t n n_is _ _ c.deref-2.ensures.value c.in_ok-append.ensures.ok;
+      short = still_short t n n_is _ _ c.deref-2.ensures.value c.in_ok-append.ensures.ok (omega (arith, c.if-n-len.false, c.len.ensures, t.line.ok.0, t.short));
+    }
 
 pub invariant_of-self-else-stop-eq35 : goal.invariant_of-self-else-stop-eq35
-invariant_of-self-else-stop-eq35 c = ?
+invariant_of-self-else-stop-eq35 c =
+    let t = c.args.self.now in
+    let n = c.kept-n.result in
+    let n_is : n ≡ prefix_len kept (at_hand t) = c.kept-n.ensures.count ∙ ap (prefix_len kept) c.at_hand.ensures in
+    let fits : n ≤ length (at_hand t) = omega (arith, n_is, prefix_len-le-length kept (at_hand t)) in
+    record {
+      within = omega (arith, fits, t.within, length-drop t.at (vec_items t.chunk));
+      clean = still_clean t n n_is _ _ c.deref-2.ensures.value c.in_ok-append.ensures.ok;
+      short = still_short t n n_is _ _ c.deref-2.ensures.value c.in_ok-append.ensures.ok (omega (arith, c.if-n-len.false, c.len.ensures, t.line.ok.0, t.short));
+    }
 
 pub returns-then-stop-eq35-clause-same : goal.returns-then-stop-eq35-clause-same
-returns-then-stop-eq35-clause-same c = let a = c.in_ok-append.ensures.ok in let b = c.append.ensures in let d = c.deref-2.ensures in ?
+returns-then-stop-eq35-clause-same c =
+    let t = c.args.self.now in
+    let n = c.kept-n.result in
+    let n_is : n ≡ prefix_len kept (at_hand t) = c.kept-n.ensures.count ∙ ap (prefix_len kept) c.at_hand.ensures in
+    let byte : c.byte_at-stop.result ≡ get_or (vec_items t.chunk) (t.at + n) 10 = c.byte_at-stop.ensures ∙ ap (λ x. get_or x (t.at + n) 10) c.deref.ensures.value in
+    let here : get_or (vec_items t.chunk) (t.at + n) 10 ≡ 35 = sym byte ∙ c.if-stop-eq35.true in
+    let lt : t.at + n < length (vec_items t.chunk) = stands (vec_items t.chunk) (t.at + n) 35 here (λ e. absurd (omega (arith, e))) in
+    record {
+      pending_same = moves_to_comment t n c.requires c.if-self.false (vec_items c.append.new.line) (line_goes_on t n n_is _ _ c.deref-2.ensures.value c.in_ok-append.ensures.ok) lt here;
+      number_same = refl;
+      ended_same = refl;
+    }
+
+pub returns-else-stop-eq35-clause-same : goal.returns-else-stop-eq35-clause-same
+returns-else-stop-eq35-clause-same c =
+    let t = c.args.self.now in
+    let n = c.kept-n.result in
+    let n_is : n ≡ prefix_len kept (at_hand t) = c.kept-n.ensures.count ∙ ap (prefix_len kept) c.at_hand.ensures in
+    record {
+      pending_same = moves t n c.requires c.if-self.false (vec_items c.append.new.line) (line_goes_on t n n_is _ _ c.deref-2.ensures.value c.in_ok-append.ensures.ok);
+      number_same = refl;
+      ended_same = refl;
+    }
+
+pub returns-else-stop-eq35-clause-stop : goal.returns-else-stop-eq35-clause-stop
+returns-else-stop-eq35-clause-stop c = λ _.
+    let t = c.args.self.now in
+    let n = c.kept-n.result in
+    let n_is : n ≡ prefix_len kept (at_hand t) = c.kept-n.ensures.count ∙ ap (prefix_len kept) c.at_hand.ensures in
+    let byte : c.byte_at-stop.result ≡ get_or (vec_items t.chunk) (t.at + n) 10 = c.byte_at-stop.ensures ∙ ap (λ x. get_or x (t.at + n) 10) c.deref.ensures.value in
+    moves_to_stop t n c.requires c.if-self.false (vec_items c.append.new.line) (line_goes_on t n n_is _ _ c.deref-2.ensures.value c.in_ok-append.ensures.ok) n_is (λ e. c.if-stop-eq0.false (byte ∙ e)) (λ e. c.if-stop-eq35.false (byte ∙ e))
