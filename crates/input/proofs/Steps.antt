@@ -66,10 +66,10 @@ module _ (t : Text) (going : t.whole ≡ false) where
     pub hands_last : t.ended ≡ true → at_hand t ≡ [] → at_hand u ≡ [] → (t.comment ≡ false → 0 < length (vec_items t.line)) → HandsOut t u
     hands_last ended none_left none some = record {
       first = λ more last.
-        let m : more ≡ [] = last ended in
-        let before : pending t ≡ so_far t.comment (vec_items t.line) ++ [] = not_whole ∙ ap (λ x. so_far t.comment (vec_items t.line) ++ x) none_left in
-        let after : pending u ≡ [] = handed_rest ∙ none in
-        ap (λ x. bare_lines (x ++ more)) before ∙ ap (λ x. bare_lines ((so_far t.comment (vec_items t.line) ++ []) ++ x)) m ∙ at_end t.comment (vec_items t.line) t.clean some ∙ ap (λ x. x ∷ []) (sym line_is) ∙ ap (λ x. vec_items u.line ∷ x) (sym (ap (λ x. bare_lines (x ++ more)) after ∙ ap bare_lines m ∙ no_lines));
+          let m : more ≡ [] = last ended in
+          let before : pending t ≡ so_far t.comment (vec_items t.line) ++ [] = not_whole ∙ ap (λ x. so_far t.comment (vec_items t.line) ++ x) none_left in
+          let after : pending u ≡ [] = handed_rest ∙ none in
+          ap (λ x. bare_lines (x ++ more)) before ∙ ap (λ x. bare_lines ((so_far t.comment (vec_items t.line) ++ []) ++ x)) m ∙ at_end t.comment (vec_items t.line) t.clean some ∙ ap (λ x. x ∷ []) (sym line_is) ∙ ap (λ x. vec_items u.line ∷ x) (sym (ap (λ x. bare_lines (x ++ more)) after ∙ ap bare_lines m ∙ no_lines));
       no_nul = no_nul (vec_items u.line) u.clean;
       short = u.short;
       handed = handed;
@@ -93,7 +93,7 @@ passes_comment t n going begun n_is more =
     let l = vec_items t.line in
     let rest : drop (t.at + n) (vec_items t.chunk) ≡ drop (prefix_len inline (at_hand t)) (at_hand t) = past t n ∙ ap (λ k. drop k (at_hand t)) n_is in
     let after : cond t.whole [] (so_far t.comment l) ++ drop (t.at + n) (vec_items t.chunk) ≡ (l ++ (35 ∷ [])) ++ drop (prefix_len inline (at_hand t)) (at_hand t) =
-      ap (λ w. cond w [] (so_far t.comment l) ++ drop (t.at + n) (vec_items t.chunk)) going ∙ ap (λ b. so_far b l ++ drop (t.at + n) (vec_items t.chunk)) begun ∙ ap (λ x. (l ++ (35 ∷ [])) ++ x) rest in
+    ap (λ w. cond w [] (so_far t.comment l) ++ drop (t.at + n) (vec_items t.chunk)) going ∙ ap (λ b. so_far b l ++ drop (t.at + n) (vec_items t.chunk)) begun ∙ ap (λ x. (l ++ (35 ∷ [])) ++ x) rest in
     ap (λ x. bare_lines (x ++ more)) (in_comment t going begun) ∙ skipped l (at_hand t) more t.clean ∙ ap (λ x. bare_lines (x ++ more)) (sym after)
 
 pub stops_at_line : (t : Text) (n : ℕ) → n ≡ prefix_len inline (at_hand t) → prefix_len inline (drop (t.at + n) (vec_items t.chunk)) ≡ 0

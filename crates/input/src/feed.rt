@@ -46,6 +46,7 @@ impl<R: Read + Drop> Feed<R> {
         ensures some { IfOk result (λ _. self.new.text.ended ≡ false → 0 < length (at_hand self.new.text)) }
         ensures end { IfOk result (λ _. at_hand self.old.text ≡ [] → self.new.text.ended ≡ true → IsAtEnd (R.remaining self.new.reader)) }
         ensures err { OnErr result ((pending self.new.text ≡ pending self.old.text) × (self.new.text.ended ≡ self.old.text.ended)) }
+        ensures waits { (at_hand self.old.text ≡ [] → ⊥) → (self.new.text ≡ self.old.text) × (self.new.reader ≡ self.old.reader) }
         ensures line { (self.new.text.line ≡ self.old.text.line) × (number_of self.new.text ≡ number_of self.old.text) }
     {
         if self.text.has_some() {

@@ -10,6 +10,11 @@ use std::fmt;
 // The most bytes of a line without its comment.
 const LIMIT: usize = 1_048_576;
 
+// With it a comment begins.
+const COMMENT: u8 = b'#';
+
+const NUL: u8 = 0;
+
 // What a text may begin with, to say that it is UTF-8.
 const MARK: [u8; 3] = [0xef, 0xbb, 0xbf];
 
@@ -59,7 +64,7 @@ impl From<AllocError> for Misread {
 fn is_kept(b: u8) -> bool
     ensures { result ≡ kept b }
 {
-    b != b'\n' && b != b'#' && b != 0
+    b != b'\n' && b != COMMENT && b != NUL
 }
 
 // How many bytes stand before the first newline, number sign or NUL.
@@ -117,6 +122,7 @@ pub(crate) struct Text {
     // Whether nothing follows the piece.
     ended: bool,
     ghost within: { at ≤ length (vec_items chunk) },
+    ghost small: { length (vec_items chunk) ≤ 65536 },
     ghost clean: { list_all kept (vec_items line) ≡ true },
     ghost short: { length (vec_items line) ≤ 1048576 },
 }
@@ -154,7 +160,8 @@ impl Text {
 
     // Takes the piece that was read next, which is empty at the text's end.
     pub(crate) fn refill(&mut self, piece: &[u8]) -> Result<(), AllocError>
-        requires { at_hand self.old ≡ [] }
+        requires none_left { at_hand self.old ≡ [] }
+        requires small { length piece.now ≤ 65536 }
         ensures ok { OnOk result ((pending self.new ≡ pending self.old ++ piece.now) × (at_hand self.new ≡ piece.now) × (IsTrue self.new.ended ↔ (piece.now ≡ []))) }
         ensures err { OnErr result ((pending self.new ≡ pending self.old) × (at_hand self.new ≡ []) × (self.new.ended ≡ self.old.ended)) }
         ensures line { (self.new.line ≡ self.old.line) × (self.new.number ≡ self.old.number) × (self.new.whole ≡ self.old.whole) }
@@ -194,12 +201,12 @@ impl Text {
             return Err(Misread::TooLong);
         }
         let stop = byte_at(&self.chunk, self.at + n);
-        if stop == 0 {
+        if stop == NUL {
             return Err(Misread::Nul);
         }
         append(&mut self.line, &self.chunk, self.at, n)?;
         self.at += n;
-        if stop == b'#' {
+        if stop == COMMENT {
             self.comment = true;
             self.at += 1;
         }

@@ -31,8 +31,8 @@ returns c =
     let none = drop_all t.at (vec_items t.chunk) (omega (arith, c.if-self-len.false, c.len.ensures, t.chunk.ok.0)) in
     let rest : at_hand u ≡ [] = ap (drop u.at) (ap vec_items k.kept.1) ∙ ap (λ n. drop n (vec_items t.chunk)) k.kept.2 ∙ none in
     let some : t.comment ≡ false → 0 < length (vec_items t.line) =
-      elim c.else-is_empty.branch [
-        | else-is_empty-via-then-is_empty+else-not-self-2 w ↦ λ e. absurd (true≢false (sym w.if-not-self-2.false ∙ e))
-        | else-is_empty-via-else-is_empty w ↦ λ _. some_line t (sym c.is_empty.ensures ∙ w.if-is_empty.false)
-      ] in
+    elim c.else-is_empty.branch [
+      | else-is_empty-via-then-is_empty+else-not-self-2 w ↦ λ e. absurd (true≢false (sym w.if-not-self-2.false ∙ e))
+      | else-is_empty-via-else-is_empty w ↦ λ _. some_line t (sym c.is_empty.ensures ∙ w.if-is_empty.false)
+    ] in
     hands_last t c.requires.whole u k.whole k.kept.0 k.counted k.kept.3 c.if-not-self.false none rest some

@@ -6,12 +6,15 @@ use Rattle.input.proofs.text.Text.next.Goals as goal
 pub returns-in-Err-clause-fault : goal.returns-in-Err-clause-fault
 returns-in-Err-clause-fault c =
     let f = c.forget.ensures.same in
-    let k = c.in-Err.ensures.same in
-    (faults_from c.args.self.now c.forget.new.self f.pending_same c.in-Err.e c.in-Err.ensures.fault, record {
-      pending_same = k.pending_same ∙ f.pending_same;
-      number_same = k.number_same ∙ f.number_same;
-      ended_same = k.ended_same ∙ f.ended_same;
-    }, c.in-Err.ensures.whole)
+    let k = c.in-Err.ensures.same in (
+      faults_from c.args.self.now c.forget.new.self f.pending_same c.in-Err.e c.in-Err.ensures.fault,
+      record {
+        pending_same = k.pending_same ∙ f.pending_same;
+        number_same = k.number_same ∙ f.number_same;
+        ended_same = k.ended_same ∙ f.ended_same;
+      },
+      c.in-Err.ensures.whole,
+    )
 
 pub returns-clause-comes : goal.returns-clause-comes
 returns-clause-comes c =
