@@ -1,7 +1,7 @@
 -- What one step of `next` makes of a text.
-use Rattle.std.proofs.Common.{◌≡◌, ℕ, ◌+◌, ◌-◌, ◌^◌, ◌<◌, ◌≤◌, min, ◌==◌, ◌⊎◌, ⊎_elim, Bool, true, false, cond, List, [], ◌∷◌, ◌++◌, length, get_or, take, drop, vec_items, sym, refl, ap, ◌∙◌, append_assoc, length-append, length-drop, arith}
+use Rattle.std.proofs.Common.{◌≡◌, ℕ, ◌+◌, ◌-◌, ◌^◌, ◌<◌, ◌≤◌, min, ◌==◌, ⊎_elim, true, false, cond, List, [], ◌∷◌, ◌++◌, length, get_or, take, drop, vec_items, sym, refl, ap, ◌∙◌, append_assoc, length-append, length-drop, arith}
 use Rattle.std.specs.List.{list_all, prefix_len}
-use Rattle.std.proofs.lemmas.List.{append-nil, take-append-drop, drop_more, drop-drop, drop_all, get_or-drop, get_or_past, get_or_default, nil_from_length}
+use Rattle.std.proofs.lemmas.List.{append-nil, take-append-drop, drop_more, drop-drop, get_or-drop, get_or_past, get_or_default}
 use Rattle.std.proofs.lemmas.Bool.{cases_lt, eqb-false}
 use Rattle.std.proofs.lemmas.List.Folds.{length-prefix_len}
 use Rattle.lines.specs.Words.{inline}
@@ -11,7 +11,7 @@ use Rattle.input.specs.declared.text.Next.TheVariants.{Line, Nothing, End}
 use Rattle.input.specs.declared.text.Misread.{Misread}
 use Rattle.input.specs.declared.text.Misread.TheVariants.{Nul, TooLong, Memory}
 use Rattle.input.specs.Line.{kept, bare_lines}
-use Rattle.input.specs.Pending.{at_hand, so_far, pending, SameLines, HandsOut, Wants, Ends, Comes, Faults}
+use Rattle.input.specs.Pending.{at_hand, so_far, pending, SameLines, HandsOut, Ends, Comes, Faults}
 use Rattle.input.proofs.BareLines.{at_newline, at_end, no_lines, no_nul, skipped, stops, too_long, nul, longer, at_stop}
 
 -- a byte that is no newline stands in a list

@@ -1,5 +1,5 @@
 -- Lines without their comments, and how the first is shown.
-use Rattle.std.specs.Prelude.{◌≡◌, ℕ, ◌==◌, Bool, cond, not, ◌&&◌, List, [], ◌∷◌, ◌++◌, drop, map, nat_eq}
+use Rattle.std.specs.Prelude.{ℕ, ◌==◌, Bool, cond, not, ◌&&◌, List, [], ◌∷◌, drop, map, nat_eq}
 use Rattle.std.specs.List.{starts_with}
 use Rattle.lines.specs.Words.{inline, plain, bare, lines}
 

@@ -33,9 +33,11 @@ pub record Same (old new : Text) : Type 0 where
 abbrev pub SameLines : (t u : List ℕ) → Type 0
 SameLines t u = (more : List ℕ) → bare_lines (t ++ more) ≡ bare_lines (u ++ more)
 
--- a line was handed out: the first without its comment, whatever follows what was read. It has no NUL and is not too long
+-- a line was handed out: the first without its comment, whatever follows what was read. It has no NUL and is not too
+-- long
 pub record HandsOut (old new : Text) : Type 0 where
-  pub first : (more : List ℕ) → (old.ended ≡ true → more ≡ []) → bare_lines (pending old ++ more) ≡ vec_items new.line ∷ bare_lines (pending new ++ more)
+  pub first : (more : List ℕ) → (old.ended ≡ true → more ≡ [])
+      → bare_lines (pending old ++ more) ≡ vec_items new.line ∷ bare_lines (pending new ++ more)
   pub no_nul : Contains (vec_items new.line) 0 → ⊥
   pub short : length (vec_items new.line) ≤ 1048576
   pub handed : new.whole ≡ true

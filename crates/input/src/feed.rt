@@ -22,7 +22,8 @@ pub struct Feed<R: Drop> {
 impl<R: Read + Drop> Feed<R> {
     /// At the beginning of the text that the reader gives.
     pub fn new(heap: Global, reader: R) -> Self
-        ensures { (pending result.text ≡ []) × (result.text.ended ≡ false) × (number_of result.text ≡ 1) × (result.reader ≡ reader) }
+        ensures { (pending result.text ≡ []) × (result.text.ended ≡ false)
+            × (number_of result.text ≡ 1) × (result.reader ≡ reader) }
     {
         Feed {
             reader,
@@ -33,7 +34,8 @@ impl<R: Read + Drop> Feed<R> {
     /// Goes on to the next line as far as what was read reaches. After a fault it stays there, and finds it again.
     pub fn next(&mut self) -> Result<Next, Misread>
         ensures comes { IfOk result (λ n. Comes self.old.text self.new.text n) }
-        ensures fault { IfErr result (λ e. Faults self.old.text e × Same self.old.text self.new.text × (self.new.text.whole ≡ false)) }
+        ensures fault { IfErr result (λ e. Faults self.old.text e
+            × Same self.old.text self.new.text × (self.new.text.whole ≡ false)) }
         ensures reader { self.new.reader ≡ self.old.reader }
     {
         self.text.next()
@@ -42,12 +44,18 @@ impl<R: Read + Drop> Feed<R> {
     /// Reads on: at least a byte, if the text goes on. While something that was read is still at hand it reads nothing.
     /// After an error it is as before, but for what the reader gave.
     pub fn more(&mut self) -> io::Result<()>
-        ensures read { IfOk result (λ _. (m : List ℕ) × (pending self.new.text ≡ pending self.old.text ++ m) × Consumes (R.remaining self.old.reader) (R.remaining self.new.reader) m) }
+        ensures read { IfOk result (λ _. (m : List ℕ)
+            × (pending self.new.text ≡ pending self.old.text ++ m)
+            × Consumes (R.remaining self.old.reader) (R.remaining self.new.reader) m) }
         ensures some { IfOk result (λ _. self.new.text.ended ≡ false → 0 < length (at_hand self.new.text)) }
-        ensures end { IfOk result (λ _. at_hand self.old.text ≡ [] → self.new.text.ended ≡ true → IsAtEnd (R.remaining self.new.reader)) }
-        ensures err { OnErr result ((pending self.new.text ≡ pending self.old.text) × (self.new.text.ended ≡ self.old.text.ended)) }
-        ensures waits { (at_hand self.old.text ≡ [] → ⊥) → (self.new.text ≡ self.old.text) × (self.new.reader ≡ self.old.reader) }
-        ensures line { (self.new.text.line ≡ self.old.text.line) × (number_of self.new.text ≡ number_of self.old.text) }
+        ensures end { IfOk result (λ _. at_hand self.old.text ≡ []
+            → self.new.text.ended ≡ true → IsAtEnd (R.remaining self.new.reader)) }
+        ensures err { OnErr result ((pending self.new.text ≡ pending self.old.text)
+            × (self.new.text.ended ≡ self.old.text.ended)) }
+        ensures waits { (at_hand self.old.text ≡ [] → ⊥)
+            → (self.new.text ≡ self.old.text) × (self.new.reader ≡ self.old.reader) }
+        ensures line { (self.new.text.line ≡ self.old.text.line)
+            × (number_of self.new.text ≡ number_of self.old.text) }
     {
         if self.text.has_some() {
             return Ok(());

@@ -131,7 +131,8 @@ impl Text {
     ghost use Rattle.input.specs.Pending.{at_hand, pending, number_of, Same, SameLines, Comes, Faults};
 
     pub(crate) fn new(heap: Global) -> Self
-        ensures { (pending result ≡ []) × (result.ended ≡ false) × (result.number ≡ 0) × (result.whole ≡ false) }
+        ensures { (pending result ≡ []) × (result.ended ≡ false)
+            × (result.number ≡ 0) × (result.whole ≡ false) }
     {
         Text {
             chunk: Vec::new(heap),
@@ -162,9 +163,12 @@ impl Text {
     pub(crate) fn refill(&mut self, piece: &[u8]) -> Result<(), AllocError>
         requires none_left { at_hand self.old ≡ [] }
         requires small { length piece.now ≤ 65536 }
-        ensures ok { OnOk result ((pending self.new ≡ pending self.old ++ piece.now) × (at_hand self.new ≡ piece.now) × (IsTrue self.new.ended ↔ (piece.now ≡ []))) }
-        ensures err { OnErr result ((pending self.new ≡ pending self.old) × (at_hand self.new ≡ []) × (self.new.ended ≡ self.old.ended)) }
-        ensures line { (self.new.line ≡ self.old.line) × (self.new.number ≡ self.old.number) × (self.new.whole ≡ self.old.whole) }
+        ensures ok { OnOk result ((pending self.new ≡ pending self.old ++ piece.now)
+            × (at_hand self.new ≡ piece.now) × (IsTrue self.new.ended ↔ (piece.now ≡ []))) }
+        ensures err { OnErr result ((pending self.new ≡ pending self.old)
+            × (at_hand self.new ≡ []) × (self.new.ended ≡ self.old.ended)) }
+        ensures line { (self.new.line ≡ self.old.line)
+            × (self.new.number ≡ self.old.number) × (self.new.whole ≡ self.old.whole) }
     {
         self.chunk.clear();
         self.at = 0;
@@ -218,7 +222,8 @@ impl Text {
         requires whole { self.old.whole ≡ false }
         requires stop { self.old.comment ≡ false → prefix_len inline (at_hand self.old) ≡ 0 }
         ensures lines { SameLines (pending self.old) (pending self.new) }
-        ensures kept { (self.new.whole ≡ false) × (self.new.number ≡ self.old.number) × (self.new.ended ≡ self.old.ended) }
+        ensures kept { (self.new.whole ≡ false)
+            × (self.new.number ≡ self.old.number) × (self.new.ended ≡ self.old.ended) }
         ensures stop { prefix_len inline (at_hand self.new) ≡ 0 }
     {
         if self.comment {
@@ -230,7 +235,8 @@ impl Text {
     fn count(&mut self)
         ensures counted { self.new.number ≡ min (self.old.number + 1) (2 ^ 64 - 1) }
         ensures whole { self.new.whole ≡ true }
-        ensures kept { (self.new.line ≡ self.old.line) × (self.new.chunk ≡ self.old.chunk) × (self.new.at ≡ self.old.at) × (self.new.ended ≡ self.old.ended) }
+        ensures kept { (self.new.line ≡ self.old.line) × (self.new.chunk ≡ self.old.chunk)
+            × (self.new.at ≡ self.old.at) × (self.new.ended ≡ self.old.ended) }
     {
         self.whole = true;
         self.number = self.number.saturating_add(1);
@@ -259,7 +265,8 @@ impl Text {
 
     pub(crate) fn next(&mut self) -> Result<Next, Misread>
         ensures comes { IfOk result (λ n. Comes self.old self.new n) }
-        ensures fault { IfErr result (λ e. Faults self.old e × Same self.old self.new × (self.new.whole ≡ false)) }
+        ensures fault { IfErr result (λ e. Faults self.old e
+            × Same self.old self.new × (self.new.whole ≡ false)) }
     {
         self.forget();
         if let Err(e) = self.take() {

@@ -1,4 +1,4 @@
-use Rattle.std.proofs.Common.{◌≡◌, ◌<◌, List, [], length, drop, vec_items, false, ap, ◌∙◌, sym, eqb-true, length-drop, arith}
+use Rattle.std.proofs.Common.{◌≡◌, ◌<◌, [], length, drop, vec_items, false, ap, ◌∙◌, sym, eqb-true, length-drop, arith}
 use Rattle.std.proofs.lemmas.Bool.{true≢false}
 use Rattle.std.proofs.lemmas.List.{drop_all, nil_from_length}
 use Rattle.input.specs.Pending.{at_hand}
