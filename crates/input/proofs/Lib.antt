@@ -1,2 +1,2 @@
-pub mod Reading
-pub mod WholeLines
+pub mod BareLines
+pub mod Steps

@@ -1,24 +1,12 @@
-// What a program reads: files, or standard input.
+//! Texts that are read line by line, whose size memory need not hold, and how what they hold is shown in a message.
 #![tactic(auto)]
 
 mod feed;
+mod shown;
+#[cfg(test)]
+mod tests;
+mod text;
 
 pub use feed::Feed;
-use std::io::Read;
-use std::rt::Files;
-use std::{fs, io};
-
-// All bytes of standard input.
-fn read_input(rt: &(impl Input + AllocGlobal)) -> io::Result<Vec<u8>> {
-    let mut bytes = Vec::new(rt.alloc());
-    rt.reader().read_to_end(&mut bytes)?;
-    Ok(bytes)
-}
-
-// All bytes of a file, or of standard input where its name is `-`.
-pub fn read_all(rt: &(impl Files + Input + AllocGlobal), path: &str) -> io::Result<Vec<u8>> {
-    if path == "-" {
-        return read_input(rt);
-    }
-    fs::read(rt, path)
-}
+pub use shown::{Cut, Escaped};
+pub use text::{Misread, Next};
