@@ -1,2 +1,3 @@
 pub mod MeaningLaws
 pub mod ReaderLaws
+pub mod TrimLaws
