@@ -177,7 +177,7 @@ pub fn trimmed_alike() -> u8
     0
 }
 
-/// A circuit that is whole, of what is kept, is the whole of what was read: nothing of it is forgotten.
+/// Nothing is forgotten of a circuit that is not turned away.
 pub fn trimmed_whole() -> u8
     ensures { TrimmedWhole }
 {
