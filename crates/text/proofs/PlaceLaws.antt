@@ -45,7 +45,8 @@ module _ (word : List ℕ) (most n : ℕ) (l : List ℕ) (ls : List (List ℕ)) 
       sym (here word {ls = ls} {l = l} {n = n} {m = n + 1} refl refl refl true (sym so) refl)
   now so new lines (suc j) h =
       let e : suc j - 1 ≡ j = omega arith in
-      let next = one_fewer word {ls = ls} {l = l} {n = n} refl refl refl (suc j) true (sym so) refl (λ z. omega arith) in
+      let some : suc j ≡ 0 → ⊥ = λ z. omega arith in
+      let next = one_fewer word {ls = ls} {l = l} {n = n} refl refl refl (suc j) true (sym so) refl some in
       lines j (omega arith) ∙ sym (rw e at next)
 
   line_added : (before after : List ℕ) →

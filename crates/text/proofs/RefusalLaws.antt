@@ -44,7 +44,8 @@ module _ (gs rs ts gates registers times : List ℕ)
     alike_low : (e f : Refusal) → FirstRefusal gs rs ts e → Applies gs rs ts f → number_of f ≤ 2 →
         FirstRefusal gates registers times e
     alike_low e f refused applies h =
-        let low_e : number_of e ≤ 2 = elim (refused.first f applies) [ inl below ↦ omega arith | inr same ↦ omega arith ] in
+        let low_e : number_of e ≤ 2 =
+        elim (refused.first f applies) [ inl below ↦ omega arith | inr same ↦ omega arith ] in
         record {
           applies = (low e low_e).0 refused.applies;
           first = λ k a. elim (cases_lt 2 (number_of k)) [

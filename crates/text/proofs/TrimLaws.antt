@@ -100,7 +100,8 @@ module _ (p : Placed) (n : ℕ) (ls : List (List ℕ)) where
       ((d : Drafted) →
       without_places (by_lines (Some (record { draft = trimmed d; places = p })) (n + 1) ls)
       ≡ trimmed_outcome (inside (n + 1) d ls)) →
-      (r : Result (Progress × Drafted) Expected) → after (trimmed_result r) ≡ trimmed_outcome (went r n ls (λ d. inside (n + 1) d ls))
+      (r : Result (Progress × Drafted) Expected) →
+      after (trimmed_result r) ≡ trimmed_outcome (went r n ls (λ d. inside (n + 1) d ls))
   as_whole below (Ok (More, d)) = below d
   as_whole below (Ok (Done, d)) = refl
   as_whole below (Err e) = refl
