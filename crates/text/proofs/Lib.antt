@@ -1,2 +1,5 @@
 pub mod MeaningLaws
+pub mod PlaceLaws
 pub mod ReaderLaws
+pub mod RefusalLaws
+pub mod TrimLaws

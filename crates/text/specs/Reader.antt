@@ -1,9 +1,10 @@
 -- Circuits that are read line by line, in memory that a circuit of the largest size takes.
-use Rattle.std.specs.Prelude.{◌≡◌, ℕ, ◌+◌, ◌*◌, ◌<◌, ◌⊎◌, Bool, cond, ◌&&◌, List, [], ◌∷◌, ◌++◌, length, take, slice_index, Some, None, Ok, Err, Option, Result, MatchResult, codes, nat_lt, vec_items}
+use Rattle.std.specs.Prelude.{◌≡◌, ℕ, ◌+◌, ◌*◌, ◌<◌, cond, ◌&&◌, List, [], ◌∷◌, ◌++◌, length, take, slice_index, Some, None, Ok, Err, Option, Result, MatchResult, codes, nat_lt, vec_items}
 use Rattle.std.specs.Option.{option_map}
+use Rattle.circuit.specs.Whole.{Whole}
 use Rattle.circuit.specs.Refused.{FirstRefusal}
 use Rattle.circuit.specs.declared.refusal.Refusal.{Refusal}
-use Rattle.lines.specs.Words.{words, lines, bare}
+use Rattle.lines.specs.Words.{words, bare}
 use Rattle.fields.specs.declared.fault.Expected.{Expected}
 use Rattle.fields.specs.declared.fault.Expected.TheVariants.{End as Ending}
 use Rattle.fields.specs.declared.fault.Fault.{Fault}
@@ -139,3 +140,7 @@ abbrev pub TrimmedAlike : Type 0
 TrimmedAlike =
     (d : Drafted) (g r : ℕ) → length d.gates ≡ 7 * g → length d.registers ≡ 3 * r → (e : Refusal) →
     FirstRefusal (trimmed d).gates (trimmed d).registers (trimmed d).times e → FirstRefusal d.gates d.registers d.times e
+
+-- numbers that are not turned away when they are trimmed are all that was read
+abbrev pub TrimmedWhole : Type 0
+TrimmedWhole = (d : Drafted) → Whole (trimmed d).gates (trimmed d).registers (trimmed d).times → trimmed d ≡ d

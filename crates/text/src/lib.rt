@@ -21,7 +21,7 @@ use draft::Progress;
 pub use draft::{Draft, Keyword, Miscount, Read};
 pub use listing::{Listing, Places};
 pub use part::Part;
-pub use reader::{Reader, places_are_lines, reads_by_lines, trimmed_alike};
+pub use reader::{Reader, places_are_lines, reads_by_lines, trimmed_alike, trimmed_whole};
 
 impl Keyword {
     // What a line is that begins with this word.

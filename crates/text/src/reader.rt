@@ -4,7 +4,7 @@ ghost use Rattle.std.specs.Option.{option_map};
 ghost use Rattle.lines.specs.Words.{words, bare};
 ghost use Rattle.text.specs.Meaning.{drafted, opened, statement, LineStated};
 ghost use Rattle.fields.specs.declared.fault.Expected.TheVariants.{Memory};
-ghost use Rattle.text.specs.Reader.{ByLines, PlacesAreLines, TrimmedAlike, marked, placed, placed_of, no_places, trimmed, listed, step, went_on, begun, most_gates, most_registers, most_times, Stepped};
+ghost use Rattle.text.specs.Reader.{ByLines, PlacesAreLines, TrimmedAlike, TrimmedWhole, marked, placed, placed_of, no_places, trimmed, listed, step, went_on, begun, most_gates, most_registers, most_times, Stepped};
 
 use crate::begins_with;
 use crate::draft::{Draft, Progress};
@@ -173,6 +173,13 @@ pub fn places_are_lines() -> u8
 /// What is forgotten of a circuit that is too large changes nothing of why it is turned away.
 pub fn trimmed_alike() -> u8
     ensures { TrimmedAlike }
+{
+    0
+}
+
+/// Nothing is forgotten of a circuit that is not turned away.
+pub fn trimmed_whole() -> u8
+    ensures { TrimmedWhole }
 {
     0
 }
