@@ -1,0 +1,4 @@
+pub mod Board
+pub mod Run
+pub mod Promise
+pub mod Marks
