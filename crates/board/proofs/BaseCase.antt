@@ -59,14 +59,14 @@ module _ (m : base.Machine) where
       hold_kept = λ r h. omega (arith, p.hold_kept 0 r h refl, first_is 0 (m.takes r) (formed.taken r h));
     }
 
-    reference_same : (start : ℕ → Bool) (outside : ℕ → ℕ → Bool) (n r : ℕ) → r < m.registers →
+    reference_is : (start : ℕ → Bool) (outside : ℕ → ℕ → Bool) (n r : ℕ) → r < m.registers →
         reference (board_of m) start outside n r ≡ base.drawing m start n r
     unfolding held
-    reference_same start outside zero r h = reference_starts (board_of m) start outside r h
-    reference_same start outside (suc n) r h =
+    reference_is start outside zero r h = reference_starts (board_of m) start outside r h
+    reference_is start outside (suc n) r h =
         reference_takes (board_of m) start outside n r h refl
         ∙ ideal_agrees m.circuit formed.sound (reference (board_of m) start outside n) (base.drawing m start n)
-        (λ i q. reference_same start outside n i (omega (arith, formed.sources))) (m.takes r) (formed.taken r h)
+        (λ i q. reference_is start outside n i (omega (arith, formed.sources))) (m.takes r) (formed.taken r h)
 
     module _ (x : Trace) where
       goes : base_run.Run m x.start x.clock x.holds x.waves → Run (board_of m) x
@@ -96,7 +96,7 @@ base_is_board m = record {
   formed = formed_board m;
   passed = λ f. (passes m f, passed m f);
   runs = λ f x. (goes m f x, went m f x);
-  reference_same = reference_same m;
+  reference_is = reference_is m;
   windows = λ f n k h. (last_is m f n k h, first_is m f n k h);
 }
 
@@ -106,4 +106,4 @@ base_promise m passed start clock holds w run n r h =
     let f = passed.formed in
     let none : ℕ → ℕ → Bool = λ n i. false in
     let x : Trace = record { start = start; outside = none; clock = clock; holds = holds; waves = w } in
-    promise_kept (board_of m) (passes m f passed) x (goes m f x run) n r h ∙ reference_same m f start none n r h
+    promise_kept (board_of m) (passes m f passed) x (goes m f x run) n r h ∙ reference_is m f start none n r h

@@ -1,14 +1,16 @@
 -- Windows of sources that are no worse, and what they mean for the sums.
-use Rattle.std.proofs.Common.{◌≡◌, ℕ, zero, suc, ◌+◌, ◌-◌, ◌*◌, ◌<◌, ◌≤◌, Bool, true, sym, refl, ap, ◌∙◌, inl, inr}
+use Rattle.std.proofs.Common.{min, max, ◌≡◌, ℕ, zero, suc, ◌+◌, ◌-◌, ◌*◌, ◌<◌, ◌≤◌, Bool, true, sym, refl, ap, ◌∙◌, inl, inr}
 use Rattle.std.proofs.Common.{arith}
 use Rattle.std.proofs.Math.Nat.{mul-le-mul_right, add-mul, mul-add}
 use Rattle.std.proofs.lemmas.Bool.{cases_lt, cases_Bool, cond-true, cond-false}
 use Rattle.circuit.specs.Circuit.{Circuit, signals, Sound}
+use Rattle.circuit.proofs.Signals.{each_signal}
+use Rattle.arrival.specs.declared.edge.Edge.{Edge}
 use Rattle.arrival.specs.declared.edge.Edge.TheVariants.{Late, Early}
-use Rattle.arrival.specs.Arrival.{CircuitWithin, latest, earliest}
-use Rattle.arrival.proofs.ArrivalLaws.{monotone, shifts}
+use Rattle.arrival.specs.Arrival.{CircuitWithin, arrival, choose, latest, earliest}
+use Rattle.arrival.proofs.ArrivalLaws.{arrival_in, arrival_at, monotone, shifts}
 use Rattle.board.specs.Board.{Board, Formed, launch_cycle, until_cycle, since, still_until}
-use Rattle.board.specs.Promise.{with_schedule, FewerTakes, CountedToFirst, Within, Narrower}
+use Rattle.board.specs.Promise.{with_schedule, FewerTakes, CountedToFirst, Within, Narrower, Slower}
 use Rattle.board.specs.Marks.{KeptIn}
 use Rattle.board.proofs.Keeping.{since_register, since_input, until_register, until_input, until_next, until_after}
 
@@ -25,6 +27,42 @@ within_self c = record {
     two_greatest = omega arith;
   };
 }
+
+-- a time over the worse of two sources' times each is the worse of two times
+pub worse_of_two : (e : Edge) (c : Circuit) → Sound c → (u v : ℕ → ℕ) → (k : ℕ) → k < signals c →
+    arrival e c (λ i. choose e (u i) (v i)) k ≡ choose e (arrival e c u k) (arrival e c v k)
+worse_of_two Late c sound u v = each_signal c sound
+    (λ k. latest c (λ i. max (u i) (v i)) k ≡ max (latest c u k) (latest c v k))
+    (λ i h.
+    omega (
+      arith,
+      arrival_in Late c sound (λ i. max (u i) (v i)) i h,
+      arrival_in Late c sound u i h,
+      arrival_in Late c sound v i h,
+    ))
+    (λ k h p q.
+    omega (
+      arith,
+      arrival_at Late c sound (λ i. max (u i) (v i)) k h,
+      arrival_at Late c sound u k h,
+      arrival_at Late c sound v k h,
+    ))
+worse_of_two Early c sound u v = each_signal c sound
+    (λ k. earliest c (λ i. min (u i) (v i)) k ≡ min (earliest c u k) (earliest c v k))
+    (λ i h.
+    omega (
+      arith,
+      arrival_in Early c sound (λ i. min (u i) (v i)) i h,
+      arrival_in Early c sound u i h,
+      arrival_in Early c sound v i h,
+    ))
+    (λ k h p q.
+    omega (
+      arith,
+      arrival_at Early c sound (λ i. min (u i) (v i)) k h,
+      arrival_at Early c sound u k h,
+      arrival_at Early c sound v k h,
+    ))
 
 -- sources no worse than others and a shift, on both sides
 module _ (c : Circuit) (sound : Sound c) (a b : ℕ) (s u : ℕ → ℕ) where
@@ -288,3 +326,29 @@ narrower new old v passed = record {
             (narrower_until new old v n) (old.takes r) k,
       ));
 }
+
+pub slower : Slower
+slower m p longer passed =
+    let f = passed.formed in
+    narrower (record m { period = p }) m
+    (record {
+      registers_same = refl;
+      circuit_within = within_self m.circuit;
+      formed = record {
+        sources = f.sources;
+        sound = f.sound;
+        taken = f.taken;
+        clocked = f.clocked;
+        inputs_ordered = f.inputs_ordered;
+        output_ordered = f.output_ordered;
+      };
+      takes_same = λ r h. refl;
+      schedule_same = λ r n h. refl;
+      clock_within = λ r h. (omega arith, omega arith);
+      inputs_within = λ i h q. (omega arith, omega arith);
+      output_within = (omega arith, omega arith);
+      setup_within = omega arith;
+      hold_within = omega arith;
+      period_within = longer;
+    })
+    passed

@@ -1,19 +1,14 @@
 -- How many cycles have to be looked at.
-use Rattle.std.proofs.Common.{◌≡◌, ℕ, zero, suc, ◌+◌, ◌*◌, ◌%◌, ◌<◌, ◌≤◌, ◌⊎◌, true, false, max, sym, refl, ◌∙◌, inl}
+use Rattle.std.proofs.Common.{◌≡◌, ℕ, zero, suc, ◌+◌, ◌*◌, ◌%◌, ◌≤◌, ◌⊎◌, true, false, max, sym, refl, ◌∙◌, inl}
 use Rattle.std.proofs.Common.{inr, arith}
 use Rattle.std.proofs.lemmas.Bool.{cases_lt, cases_eq, cases_Bool, true≢false, lt-ltb, eq-eqb}
-use Rattle.circuit.specs.Circuit.{Circuit, signals, Sound}
-use Rattle.circuit.proofs.Signals.{each_signal}
-use Rattle.arrival.specs.declared.edge.Edge.TheVariants.{Late}
-use Rattle.arrival.specs.Arrival.{latest}
-use Rattle.arrival.proofs.ArrivalLaws.{arrival_in, arrival_at, shifts}
 use Rattle.board.specs.declared.mark.Mark.{Mark}
 use Rattle.board.specs.declared.mark.Mark.TheVariants.{Every, Odd, Even, Second}
-use Rattle.board.specs.Board.{Board, Formed, launch_cycle, until_cycle, since, still_until}
-use Rattle.board.specs.Marks.{takes_by, Marked, KeptIn, TwoCycles, OneCycle}
+use Rattle.board.specs.Board.{Board, launch_cycle, until_cycle, since, still_until}
+use Rattle.board.specs.Marks.{takes_by, Marked, KeptIn, OneCycle}
 use Rattle.board.proofs.Keeping.{since_register, since_input, until_register, until_input, launch_anew, launch_before}
 use Rattle.board.proofs.Keeping.{until_next, until_after}
-use Rattle.board.proofs.Comparing.{as_in, sooner, launch_by_now}
+use Rattle.board.proofs.Comparing.{as_in, launch_by_now}
 
 -- from the second cycle on a mark's schedule repeats every two cycles
 repeats : (x : Mark) (n : ℕ) → 1 ≤ n → takes_by x (suc (suc n)) ≡ takes_by x n
@@ -31,7 +26,7 @@ first_takers Second e n = absurd (true≢false (sym e))
 first_takers Even e n = absurd (true≢false (sym e))
 
 -- one of two cycles in a row has a taking at its end
-one_of_two : (x : Mark) (n : ℕ) → 1 ≤ n → (takes_by x n ≡ true) ⊎ (takes_by x (suc n) ≡ true)
+pub one_of_two : (x : Mark) (n : ℕ) → 1 ≤ n → (takes_by x n ≡ true) ⊎ (takes_by x (suc n) ≡ true)
 one_of_two Every n h = inl refl
 one_of_two Odd n h = elim (cases_eq (n % 2) 1) [ inl e ↦ inl (eq-eqb _ _ e) | inr e ↦ inr (eq-eqb _ _ (omega arith)) ]
 one_of_two Second n h =
@@ -106,23 +101,6 @@ module _ (m : Board) (mark : ℕ → Mark) (marked : Marked m mark) where
     | inr e ↦ omega (arith, until_after m r n e, until_after m r (suc (suc n)) (repeats_at r n h ∙ e))
   ]
 
-  module _ (formed : Formed m) where
-    up : (n : ℕ) → 3 ≤ n → KeptIn m n → KeptIn m (suc (suc n))
-    up n h = as_in m n (suc (suc n)) formed (λ r q e. sym (repeats_at r n (omega arith)) ∙ e)
-        (λ r q. omega (arith, launch_later r n h)) (λ r q. omega (arith, until_on r n (omega arith)))
-
-    down : (n : ℕ) → 1 ≤ n → KeptIn m (suc (suc n)) → KeptIn m n
-    down n h = as_in m (suc (suc n)) n formed (λ r q e. repeats_at r n h ∙ e) (λ r q. omega (arith, launch_on r n h))
-        (λ r q. omega (arith, until_on r n h))
-
--- a latest time over sources each of which is no later than one of two is no later than one of the two latest times
-latest_of_two : (c : Circuit) → Sound c → (s u v : ℕ → ℕ) → ((i : ℕ) → i < c.inputs → s i ≤ max (u i) (v i)) →
-    (k : ℕ) → k < signals c → latest c s k ≤ max (latest c u k) (latest c v k)
-latest_of_two c sound s u v less = each_signal c sound (λ k. latest c s k ≤ max (latest c u k) (latest c v k))
-    (λ i h. rw (arrival_in Late c sound s i h, arrival_in Late c sound u i h, arrival_in Late c sound v i h) (less i h))
-    (λ k h p q. rw (arrival_at Late c sound s k h, arrival_at Late c sound u k h, arrival_at Late c sound v k h)
-    (omega arith))
-
 -- cycle 0, in which every stretch begins, from both
 module _ (m : Board) (mark : ℕ → Mark) (marked : Marked m mark) where
   pub takes_later : (r n : ℕ) → m.takes_at r 0 ≡ true → m.takes_at r n ≡ true
@@ -164,46 +142,6 @@ module _ (m : Board) (mark : ℕ → Mark) (marked : Marked m mark) where
           ]
     ]
   ]
-
-module _ (m : Board) (mark : ℕ → Mark) (marked : Marked m mark) (formed : Formed m) (third : KeptIn m 3)
-    (fourth : KeptIn m 4) where
-  first_cycle : KeptIn m 0
-  first_cycle = record {
-    setup_kept = λ r h e.
-        let k = formed.taken r h in
-        omega (
-          arith,
-          third.setup_kept r h (takes_later m mark marked r 3 e),
-          fourth.setup_kept r h (takes_later m mark marked r 4 e),
-          shifts Late m.circuit (since m 0) (4 * m.period) formed.sound (m.takes r) k,
-          shifts Late m.circuit (since m 3) m.period formed.sound (m.takes r) k,
-          latest_of_two m.circuit formed.sound (λ i. 4 * m.period + since m 0 i) (λ i. m.period + since m 3 i)
-              (since m 4) (λ i _. since_first m mark marked i) (m.takes r) k,
-        );
-    hold_kept = λ r h e.
-        omega (
-          arith,
-          third.hold_kept r h (takes_later m mark marked r 3 e),
-          sooner m.circuit formed.sound 0 (3 * m.period) (still_until m 3) (λ i. still_until m 0 i)
-              (λ i _. omega (arith, still_first m mark marked 3 i)) (m.takes r) (formed.taken r h),
-        );
-  }
-
-  every_cycle : (n : ℕ) → KeptIn m n
-  every_cycle zero = first_cycle
-  every_cycle (suc zero) = down m mark marked formed 1 (omega arith) third
-  every_cycle (suc (suc zero)) = down m mark marked formed 2 (omega arith) fourth
-  every_cycle (suc (suc (suc zero))) = third
-  every_cycle (suc (suc (suc (suc zero)))) = fourth
-  every_cycle (suc (suc (suc (suc (suc n))))) =
-      up m mark marked formed (suc (suc (suc n))) (omega arith) (every_cycle (suc (suc (suc n))))
-
-pub two_cycles : TwoCycles
-two_cycles m mark marked formed third fourth = record {
-  formed = formed;
-  setup_kept = λ n r h e. (every_cycle m mark marked formed third fourth n).setup_kept r h e;
-  hold_kept = λ n r h e. (every_cycle m mark marked formed third fourth n).hold_kept r h e;
-}
 
 pub one_cycle : OneCycle
 one_cycle m all formed first = record {

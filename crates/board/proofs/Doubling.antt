@@ -10,7 +10,7 @@ use Rattle.board.specs.declared.mark.Mark.TheVariants.{Odd}
 use Rattle.board.specs.Board.{Board, Formed, launch_cycle, since, still_until, last_change, first_change}
 use Rattle.board.specs.Marks.{KeptIn, every_second, TwoPeriods}
 use Rattle.board.proofs.Keeping.{since_register, until_register, launch_anew, launch_before, until_next}
-use Rattle.board.proofs.Cycles.{two_cycles}
+use Rattle.board.proofs.Capturing.{two_cycles}
 
 module _ (m : base.Machine) (p : ℕ) (formed : base.Formed m) where
   abbrev b : Board

@@ -50,7 +50,7 @@ pub record AgreesWithBoard (m : base.Machine) : Type 0 where
   pub formed : base.Formed m → Formed (board_of m)
   pub passed : base.Formed m → base.Passed m ↔ Passed (board_of m)
   pub runs : base.Formed m → (x : Trace) → base_run.Run m x.start x.clock x.holds x.waves ↔ Run (board_of m) x
-  pub reference_same : base.Formed m → (start : ℕ → Bool) (outside : ℕ → ℕ → Bool) (n r : ℕ) → r < m.registers →
+  pub reference_is : base.Formed m → (start : ℕ → Bool) (outside : ℕ → ℕ → Bool) (n r : ℕ) → r < m.registers →
       reference (board_of m) start outside n r ≡ base.drawing m start n r
   pub windows : base.Formed m → (n k : ℕ) → k < signals m.circuit →
       (last_change (board_of m) n k ≡ n * m.period + base.last_change m k)
@@ -90,9 +90,12 @@ pub record Within (new old : Board) : Type 0 where
   pub hold_within : new.hold ≤ old.hold
   pub period_within : old.period ≤ new.period
 
--- what is passed is so with bounds within the old ones, and with every longer period
+-- what is passed is so with bounds within the old ones, and with every longer period alone
 abbrev pub Narrower : Type 0
 Narrower = (new old : Board) → Within new old → Passed old → Passed new
+
+abbrev pub Slower : Type 0
+Slower = (m : Board) (p : ℕ) → m.period ≤ p → Passed m → Passed (record m { period = p })
 
 -- clocks of one register come in order
 abbrev pub InOrder : Board → (clock : (n r : ℕ) → ℕ) → Type 0

@@ -1,8 +1,11 @@
 //! Clocked circuits whose registers need not take in every cycle, with inputs from outside: what passing promises.
 #![tactic(auto)]
 
-ghost use Rattle.board.specs.Promise.{Promise, InWindow, FewerTakes, CountedToFirst, Narrower, BaseIsBoard, CanGo};
+ghost use Rattle.board.specs.Promise.{Promise, InWindow, FewerTakes, CountedToFirst, Narrower, Slower};
+ghost use Rattle.board.specs.Promise.{BaseIsBoard, CanGo};
 ghost use Rattle.board.specs.Marks.{TwoCycles, OneCycle, TwoPeriods};
+ghost use Rattle.board.specs.Capture.{PassedByCapture, CaptureTimes, SecondIsOdd, UnmarkedIsPlain};
+ghost use Rattle.board.specs.FirstCycle.{FirstCycleMatters};
 ghost use Rattle.promise.specs.Promise as base;
 
 mod mark;
@@ -40,6 +43,13 @@ pub fn counted_to_first() -> u8
 /// What is passed is so with bounds within the old ones and a period that is no shorter.
 pub fn narrower() -> u8
     ensures { Narrower }
+{
+    0
+}
+
+/// What is passed is so with every longer period.
+pub fn slower() -> u8
+    ensures { Slower }
 {
     0
 }
@@ -83,6 +93,42 @@ pub fn can_go() -> u8
 /// Registers that all take every second cycle have two periods.
 pub fn two_periods() -> u8
     ensures { TwoPeriods }
+{
+    0
+}
+
+/// A board with marks is passed exactly if two sums are right at each register, as its own mark has them.
+pub fn passed_by_capture() -> u8
+    ensures { PassedByCapture }
+{
+    0
+}
+
+/// The arrival times in these sums are those of a cycle, or of an unmarked register the worse of two cycles in a row.
+pub fn capture_times() -> u8
+    ensures { CaptureTimes }
+{
+    0
+}
+
+/// Registers marked `Odd` and `Second` are judged by one set of arrival times.
+pub fn second_is_odd() -> u8
+    ensures { SecondIsOdd }
+{
+    0
+}
+
+/// The arrival times at an unmarked register are those of a machine, whatever the marks of the sources are.
+pub fn unmarked_is_plain() -> u8
+    ensures { UnmarkedIsPlain }
+{
+    0
+}
+
+/// A register that takes at the end of cycle 0 and then at the ends of all even cycles can go wrong, though both sums are
+/// right in every cycle but cycle 0.
+pub fn first_cycle_matters() -> u8
+    ensures { FirstCycleMatters }
 {
     0
 }

@@ -1,4 +1,4 @@
-use Rattle.board.proofs.Cycles as laws
+use Rattle.board.proofs.Capturing as laws
 use Rattle.board.proofs.two_cycles.Goals as goal
 
 pub returns : goal.returns
