@@ -1,8 +1,10 @@
 -- The sums as the capturing register sees them.
-use Rattle.std.proofs.Common.{◌≡◌, ℕ, zero, suc, ◌+◌, ◌*◌, ◌%◌, ◌<◌, ◌≤◌, true, false, eqb, min, max, sym, refl, ap, ◌∙◌, inl, inr}
+use Rattle.std.proofs.Common.{◌≡◌, ℕ, zero, suc, ◌+◌, ◌*◌, ◌%◌, ◌<◌, ◌≤◌, true, false, eqb, min, max, sym, refl, ap}
+use Rattle.std.proofs.Common.{◌∙◌, inl, inr}
 use Rattle.std.proofs.Common.{arith}
 use Rattle.std.proofs.Math.Nat.{add-mul}
-use Rattle.std.proofs.lemmas.Bool.{cases_lt, ne_eqb, cases_Bool, true≢false, lt-ltb, le-ltb, eq-eqb, eqb-true, cond-true, cond-false}
+use Rattle.std.proofs.lemmas.Bool.{cases_lt, ne_eqb, cases_Bool, true≢false, lt-ltb, le-ltb, eq-eqb, eqb-true}
+use Rattle.std.proofs.lemmas.Bool.{cond-true, cond-false}
 use Rattle.circuit.specs.Circuit.{Sound}
 use Rattle.arrival.specs.declared.edge.Edge.TheVariants.{Late, Early}
 use Rattle.arrival.proofs.ArrivalLaws.{shifts, agrees}
@@ -10,12 +12,14 @@ use Rattle.board.specs.declared.mark.Mark.{Mark}
 use Rattle.board.specs.declared.mark.Mark.TheVariants.{Every, Odd, Even, Second}
 use Rattle.board.specs.Board.{Board, Formed, Passed, launch_cycle, until_cycle, since, still_until}
 use Rattle.board.specs.Marks.{takes_by, Marked, KeptIn, TwoCycles}
-use Rattle.board.specs.Capture.{in_phase, out_of_phase, cycles_before, launch_offset, held_over, late_source, early_source}
+use Rattle.board.specs.Capture.{in_phase, out_of_phase, cycles_before, launch_offset, held_over, late_source}
+use Rattle.board.specs.Capture.{early_source}
 use Rattle.board.specs.Capture.{late_time, early_time, MetByCapture, TimesOfCycles, PassedByCapture, CaptureTimes}
 use Rattle.board.specs.Capture.{SecondIsOdd, UnmarkedIsPlain}
 use Rattle.board.specs.Promise.{board_of}
 use Rattle.promise.specs.Machine as base
-use Rattle.board.proofs.Keeping.{since_register, since_input, until_register, until_input, launch_anew, launch_before, until_next, until_after}
+use Rattle.board.proofs.Keeping.{since_register, since_input, until_register, until_input, launch_anew, launch_before}
+use Rattle.board.proofs.Keeping.{until_next, until_after}
 use Rattle.board.proofs.Comparing.{worse_of_two, later, sooner, times_more, launch_by_now, until_past_now}
 use Rattle.board.proofs.Cycles.{one_of_two}
 
@@ -67,7 +71,8 @@ in_phase_before Even Odd n e f = absurd (true≢false (sym f))
 in_phase_before Even Second n e f = absurd (true≢false (sym f))
 
 -- and where its mark is not `Every`, each other one did
-rest_before : (c s : Mark) (n : ℕ) → 1 ≤ n → takes_by c (suc n) ≡ true → cycles_before c ≡ 1 → in_phase c s ≡ false → takes_by s n ≡ true
+rest_before : (c s : Mark) (n : ℕ) → 1 ≤ n → takes_by c (suc n) ≡ true → cycles_before c ≡ 1 → in_phase c s ≡ false →
+    takes_by s n ≡ true
 rest_before Every s n h e one f = absurd (omega arith)
 rest_before c Every n h e one f = refl
 rest_before Odd Even n h e one f = odd_even_before n h e
@@ -96,7 +101,8 @@ out_of_phase_now Second Second n e f = absurd (true≢false (sym f))
 out_of_phase_now Even Every n e f = absurd (true≢false (sym f))
 out_of_phase_now Even Even n e f = absurd (true≢false (sym f))
 
-rest_now : (c s : Mark) (n : ℕ) → takes_by c n ≡ true → cycles_before c ≡ 1 → out_of_phase c s ≡ false → takes_by s n ≡ true
+rest_now : (c s : Mark) (n : ℕ) → takes_by c n ≡ true → cycles_before c ≡ 1 → out_of_phase c s ≡ false →
+    takes_by s n ≡ true
 rest_now Every s n e one f = absurd (omega arith)
 rest_now c Every n e one f = refl
 rest_now Odd Odd n e one f = e
@@ -123,13 +129,15 @@ first_unmarked Even e = absurd (true≢false (sym e))
 first_unmarked Second e = absurd (true≢false (sym e))
 
 module _ (m : Board) (mark : ℕ → Mark) (c : Mark) (i : ℕ) where
-  pub late_register : i < m.registers → late_source m mark c i ≡ launch_offset c (mark i) * m.period + (m.late i + m.output_late)
+  pub late_register : i < m.registers →
+      late_source m mark c i ≡ launch_offset c (mark i) * m.period + (m.late i + m.output_late)
   late_register h = cond-true _ _ _ (lt-ltb i m.registers h)
 
   pub late_input : m.registers ≤ i → late_source m mark c i ≡ cycles_before c * m.period + m.input_late i
   late_input h = cond-false _ _ _ (le-ltb i m.registers h)
 
-  pub early_register : i < m.registers → early_source m mark c i ≡ held_over c (mark i) * m.period + (m.early i + m.output_early)
+  pub early_register : i < m.registers →
+      early_source m mark c i ≡ held_over c (mark i) * m.period + (m.early i + m.output_early)
   early_register h = cond-true _ _ _ (lt-ltb i m.registers h)
 
   pub early_input : m.registers ≤ i → early_source m mark c i ≡ m.input_early i
@@ -137,7 +145,8 @@ module _ (m : Board) (mark : ℕ → Mark) (c : Mark) (i : ℕ) where
 
 module _ (m : Board) (mark : ℕ → Mark) (marked : Marked m mark) where
   -- no launch is later, in a cycle of capture, than the view has it
-  launch_within : (c : Mark) (n r : ℕ) → takes_by c n ≡ true → cycles_before c + launch_cycle m r n ≤ n + launch_offset c (mark r)
+  launch_within : (c : Mark) (n r : ℕ) → takes_by c n ≡ true →
+      cycles_before c + launch_cycle m r n ≤ n + launch_offset c (mark r)
   launch_within c zero r e = let f = first_unmarked c e in omega (arith, launch_by_now m r 0)
   launch_within c (suc n) r e = elim (cases_Bool (in_phase c (mark r))) [
     | inl f ↦
@@ -155,7 +164,8 @@ module _ (m : Board) (mark : ℕ → Mark) (marked : Marked m mark) where
     | inl f ↦
         let z : held_over c (mark r) ≡ 1 = cond-true (out_of_phase c (mark r)) 1 0 f in
         omega (arith, until_after m r n (marked r n ∙ out_of_phase_now c (mark r) n e f))
-    | inr f ↦ let z : held_over c (mark r) ≡ 0 = cond-false (out_of_phase c (mark r)) 1 0 f in omega (arith, until_past_now m r n)
+    | inr f ↦ let z : held_over c (mark r) ≡ 0 = cond-false (out_of_phase c (mark r)) 1 0 f in
+        omega (arith, until_past_now m r n)
   ]
 
   since_within : (c : Mark) (n i : ℕ) → takes_by c n ≡ true →
@@ -173,11 +183,17 @@ module _ (m : Board) (mark : ℕ → Mark) (marked : Marked m mark) where
     | inr q ↦ omega (arith, since_input m n i q, late_input m mark c i q)
   ]
 
-  still_within : (c : Mark) (n i : ℕ) → takes_by c n ≡ true → suc n * m.period + early_source m mark c i ≤ still_until m n i
+  still_within : (c : Mark) (n i : ℕ) → takes_by c n ≡ true →
+      suc n * m.period + early_source m mark c i ≤ still_until m n i
   still_within c n i e = elim (cases_lt i m.registers) [
     | inl q ↦
         let t = times_more _ _ m.period (until_within c n i e) in
-        omega (arith, until_register m n i q, early_register m mark c i q, add-mul (suc n) (held_over c (mark i)) m.period)
+        omega (
+          arith,
+          until_register m n i q,
+          early_register m mark c i q,
+          add-mul (suc n) (held_over c (mark i)) m.period,
+        )
     | inr q ↦ omega (arith, until_input m n i q, early_input m mark c i q)
   ]
 
@@ -188,7 +204,8 @@ module _ (m : Board) (mark : ℕ → Mark) (marked : Marked m mark) where
     setup_kept = λ n r h e.
         let c = mark r in
         let now : takes_by c n ≡ true = sym (marked r n) ∙ e in
-        let l = later m.circuit right.formed.sound (cycles_before c * m.period) (n * m.period) (since m n) (late_source m mark c)
+        let l = later m.circuit right.formed.sound (cycles_before c * m.period) (n * m.period) (since m n)
+        (late_source m mark c)
         (λ i _. since_within c n i now) (m.takes r) (right.formed.taken r h) in
         omega (arith, right.setup_met r h);
     hold_kept = λ n r h e.
@@ -220,7 +237,8 @@ module _ (m : Board) (mark : ℕ → Mark) (marked : Marked m mark) where
         )
   ]
 
-  until_at : (c : Mark) (n r : ℕ) → cycles_before c ≡ 1 → takes_by c n ≡ true → until_cycle m r n ≡ suc n + held_over c (mark r)
+  until_at : (c : Mark) (n r : ℕ) → cycles_before c ≡ 1 → takes_by c n ≡ true →
+      until_cycle m r n ≡ suc n + held_over c (mark r)
   until_at c n r one e = elim (cases_Bool (out_of_phase c (mark r))) [
     | inl f ↦
         let z : held_over c (mark r) ≡ 1 = cond-true (out_of_phase c (mark r)) 1 0 f in
@@ -235,7 +253,12 @@ module _ (m : Board) (mark : ℕ → Mark) (marked : Marked m mark) where
   since_at c n i one h e = elim (cases_lt i m.registers) [
     | inl q ↦
         let t = ap (λ (x : ℕ). x * m.period) (launch_at c n i one h e) in
-        omega (arith, since_register m (suc n) i q, late_register m mark c i q, add-mul n (launch_offset c (mark i)) m.period)
+        omega (
+          arith,
+          since_register m (suc n) i q,
+          late_register m mark c i q,
+          add-mul n (launch_offset c (mark i)) m.period,
+        )
     | inr q ↦
         let t = ap (λ (x : ℕ). x * m.period) one in
         omega (arith, since_input m (suc n) i q, late_input m mark c i q)
@@ -246,7 +269,12 @@ module _ (m : Board) (mark : ℕ → Mark) (marked : Marked m mark) where
   still_at c n i one e = elim (cases_lt i m.registers) [
     | inl q ↦
         let t = ap (λ (x : ℕ). x * m.period) (until_at c n i one e) in
-        omega (arith, until_register m n i q, early_register m mark c i q, add-mul (suc n) (held_over c (mark i)) m.period)
+        omega (
+          arith,
+          until_register m n i q,
+          early_register m mark c i q,
+          add-mul (suc n) (held_over c (mark i)) m.period,
+        )
     | inr q ↦ omega (arith, until_input m n i q, early_input m mark c i q)
   ]
 
@@ -270,7 +298,8 @@ module _ (m : Board) (mark : ℕ → Mark) (marked : Marked m mark) where
       ]
 
   still_every : (n i : ℕ) → 1 ≤ n →
-      min (m.period + still_until m n i) (still_until m (suc n) i) ≡ suc (suc n) * m.period + early_source m mark Every i
+      min (m.period + still_until m n i) (still_until m (suc n) i) ≡ suc
+      (suc n) * m.period + early_source m mark Every i
   still_every n i h =
       let a = still_within Every n i refl in
       let b = still_within Every (suc n) i refl in

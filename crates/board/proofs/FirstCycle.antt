@@ -1,5 +1,6 @@
 -- A register that takes at the end of cycle 0 and of every even cycle, and a run in which it goes wrong.
-use Rattle.std.proofs.Common.{◌≡◌, ℕ, zero, suc, ◌+◌, ◌-◌, ◌*◌, ◌%◌, ◌<◌, ◌≤◌, Bool, true, false, ◌&&◌, ltb, refl, sym, ◌∙◌}
+use Rattle.std.proofs.Common.{◌≡◌, ℕ, zero, suc, ◌+◌, ◌-◌, ◌*◌, ◌%◌, ◌<◌, ◌≤◌, Bool, true, false, ◌&&◌, ltb, refl, sym}
+use Rattle.std.proofs.Common.{◌∙◌}
 use Rattle.std.proofs.Common.{inl, inr, arith}
 use Rattle.std.proofs.lemmas.Bool.{cases_Bool, true≢false, ne_eqb, eqb-true, lt-ltb, le-ltb}
 use Rattle.circuit.specs.Gate.{output}
@@ -30,7 +31,8 @@ formed = record {
   output_ordered = omega arith;
 }
   where
-    before : (k : ℕ) → k < 1 → ((gate even_from_zero.circuit k).one < 1 + k) × ((gate even_from_zero.circuit k).two < 1 + k)
+    before : (k : ℕ) → k < 1 → ((gate even_from_zero.circuit k).one < 1 + k)
+        × ((gate even_from_zero.circuit k).two < 1 + k)
     before zero h = (omega arith, omega arith)
     before (suc k) h = absurd (omega arith)
 
@@ -132,7 +134,8 @@ goes_wrong = (trace, run, (1, 0, omega arith, λ e. true≢false (sym e)))
     past : (t : ℕ) → 5 ≤ t → shown t ≡ false
     past t h = rw (lt-ltb 1 t (omega arith), le-ltb t 5 h) refl
 
-    shows : (n r t : ℕ) → r < 1 → launch_cycle even_from_zero r n * 4 + 2 ≤ t → t < suc n * 4 + 1 → waves r t ≡ holds n r
+    shows : (n r t : ℕ) → r < 1 → launch_cycle even_from_zero r n * 4 + 2 ≤ t → t < suc n * 4 + 1 →
+        waves r t ≡ holds n r
     shows zero zero t h a z = rw (lt-ltb 1 t (omega arith), lt-ltb t 5 (omega arith)) refl
     shows (suc n) zero t h a z = past t (omega (arith, took n))
     shows n (suc r) t h a z = absurd (omega arith)
@@ -177,7 +180,8 @@ goes_wrong = (trace, run, (1, 0, omega arith, λ e. true≢false (sym e)))
 pub first_cycle_matters : FirstCycleMatters
 first_cycle_matters = record {
   later_kept = later_kept;
-  not_passed = λ passed. goes_wrong.2.3 (promise_kept even_from_zero passed goes_wrong.0 goes_wrong.1 goes_wrong.2.0 goes_wrong.2.1 goes_wrong.2.2);
+  not_passed = λ passed. goes_wrong.2.3
+      (promise_kept even_from_zero passed goes_wrong.0 goes_wrong.1 goes_wrong.2.0 goes_wrong.2.1 goes_wrong.2.2);
   goes_wrong = goes_wrong;
   passed_with_mark = passed_with_mark;
 }

@@ -87,14 +87,17 @@ PassedByCapture = (m : Board) (mark : ℕ → Mark) → Marked m mark → Passed
 -- are the worse of two cycles in a row, from cycle 3 on, each counted from its own beginning or end: so of cycles 3 and
 -- 4
 pub record TimesOfCycles (m : Board) (mark : ℕ → Mark) : Type 0 where
-  pub late_marked : (c : Mark) (n k : ℕ) → k < signals m.circuit → cycles_before c ≡ 1 → 2 ≤ n → takes_by c (suc n) ≡ true →
+  pub late_marked : (c : Mark) (n k : ℕ) → k < signals m.circuit → cycles_before c ≡ 1 → 2 ≤ n →
+      takes_by c (suc n) ≡ true →
       last_change m (suc n) k ≡ n * m.period + late_time m mark c k
-  pub early_marked : (c : Mark) (n k : ℕ) → k < signals m.circuit → cycles_before c ≡ 1 → 2 ≤ n → takes_by c (suc n) ≡ true →
+  pub early_marked : (c : Mark) (n k : ℕ) → k < signals m.circuit → cycles_before c ≡ 1 → 2 ≤ n →
+      takes_by c (suc n) ≡ true →
       first_change m (suc n) k ≡ suc (suc n) * m.period + early_time m mark c k
   pub late_unmarked : (n k : ℕ) → k < signals m.circuit → 3 ≤ n →
       max (m.period + last_change m n k) (last_change m (suc n) k) ≡ suc n * m.period + late_time m mark Every k
   pub early_unmarked : (n k : ℕ) → k < signals m.circuit → 3 ≤ n →
-      min (m.period + first_change m n k) (first_change m (suc n) k) ≡ suc (suc n) * m.period + early_time m mark Every k
+      min (m.period + first_change m n k) (first_change m (suc n) k) ≡ suc
+      (suc n) * m.period + early_time m mark Every k
 
 abbrev pub CaptureTimes : Type 0
 CaptureTimes = (m : Board) (mark : ℕ → Mark) → Marked m mark → Sound m.circuit → TimesOfCycles m mark

@@ -125,8 +125,8 @@ pub fn unmarked_is_plain() -> u8
     0
 }
 
-/// A register that takes at the end of cycle 0 and then at the ends of all even cycles can go wrong, though both sums are
-/// right in every cycle but cycle 0.
+/// A register that takes at the end of cycle 0 and then at the ends of all even cycles can go wrong, though both sums
+/// are right in every cycle but cycle 0.
 pub fn first_cycle_matters() -> u8
     ensures { FirstCycleMatters }
 {
