@@ -2,7 +2,7 @@
 use Rattle.std.proofs.Common.{◌≡◌, ℕ, zero, suc, ◌+◌, ◌*◌, ◌%◌, ◌<◌, ◌≤◌, true, false, eqb, min, max, sym, refl, ap}
 use Rattle.std.proofs.Common.{◌∙◌, inl, inr}
 use Rattle.std.proofs.Common.{arith}
-use Rattle.std.proofs.Math.Nat.{add-mul}
+use Rattle.std.proofs.Math.Nat.{add-mul, mul-add}
 use Rattle.std.proofs.lemmas.Bool.{cases_lt, ne_eqb, cases_Bool, true≢false, lt-ltb, le-ltb, eq-eqb, eqb-true}
 use Rattle.std.proofs.lemmas.Bool.{cond-true, cond-false}
 use Rattle.circuit.specs.Circuit.{Sound}
@@ -15,7 +15,7 @@ use Rattle.board.specs.Marks.{takes_by, Marked, KeptIn, TwoCycles}
 use Rattle.board.specs.Capture.{in_phase, out_of_phase, cycles_before, launch_offset, held_over, late_source}
 use Rattle.board.specs.Capture.{early_source}
 use Rattle.board.specs.Capture.{late_time, early_time, MetByCapture, TimesOfCycles, PassedByCapture, CaptureTimes}
-use Rattle.board.specs.Capture.{SecondIsOdd, UnmarkedIsPlain}
+use Rattle.board.specs.Capture.{LongerPeriod, SecondIsOdd, UnmarkedIsPlain}
 use Rattle.board.specs.Promise.{board_of}
 use Rattle.promise.specs.Machine as base
 use Rattle.board.proofs.Keeping.{since_register, since_input, until_register, until_input, launch_anew, launch_before}
@@ -481,3 +481,69 @@ second_is_odd m mark sound k h = (
 
     early : (i : ℕ) → early_source m mark Second i ≡ early_source m mark Odd i
     early i = rw (second_held (mark i)) refl
+
+-- a longer period
+module _ (m : Board) (mark : ℕ → Mark) (d : ℕ) where
+  abbrev new : Board
+  new = record m { period = m.period + d }
+
+  offset_less : (c s : Mark) → launch_offset c s ≤ cycles_before c
+  offset_less c s = elim (cases_Bool (in_phase c s)) [
+    | inl f ↦ let z : launch_offset c s ≡ 0 = cond-true (in_phase c s) 0 (cycles_before c) f in omega arith
+    | inr f ↦
+        let z : launch_offset c s ≡ cycles_before c = cond-false (in_phase c s) 0 (cycles_before c) f in omega arith
+  ]
+
+  held_less : (c s : Mark) → held_over c s ≤ 1
+  held_less c s = elim (cases_Bool (out_of_phase c s)) [
+    | inl f ↦ let z : held_over c s ≡ 1 = cond-true (out_of_phase c s) 1 0 f in omega arith
+    | inr f ↦ let z : held_over c s ≡ 0 = cond-false (out_of_phase c s) 1 0 f in omega arith
+  ]
+
+  late_grows : (c : Mark) (i : ℕ) →
+      (late_source m mark c i ≤ late_source new mark c i)
+      × (late_source new mark c i ≤ cycles_before c * d + late_source m mark c i)
+  late_grows c i = elim (cases_lt i m.registers) [
+    | inl q ↦
+        let a = late_register m mark c i q in
+        let b = late_register new mark c i q in
+        let e = mul-add (launch_offset c (mark i)) m.period d in
+        let t = times_more (launch_offset c (mark i)) (cycles_before c) d (offset_less c (mark i)) in
+        (omega arith, omega arith)
+    | inr q ↦
+        let a = late_input m mark c i q in
+        let b = late_input new mark c i q in
+        let e = mul-add (cycles_before c) m.period d in
+        (omega arith, omega arith)
+  ]
+
+  early_grows : (c : Mark) (i : ℕ) →
+      (early_source m mark c i ≤ early_source new mark c i) × (early_source new mark c i ≤ d + early_source m mark c i)
+  early_grows c i = elim (cases_lt i m.registers) [
+    | inl q ↦
+        let a = early_register m mark c i q in
+        let b = early_register new mark c i q in
+        let e = mul-add (held_over c (mark i)) m.period d in
+        let t = times_more (held_over c (mark i)) 1 d (held_less c (mark i)) in
+        (omega arith, omega arith)
+    | inr q ↦ (
+      omega (arith, early_input m mark c i q, early_input new mark c i q),
+      omega (arith, early_input m mark c i q, early_input new mark c i q),
+    )
+  ]
+
+pub longer_period : LongerPeriod
+longer_period m mark d sound = record {
+  late_grows = λ c k h.
+      let a = later m.circuit sound 0 0 (late_source m mark c) (late_source (new m mark d) mark c)
+      (λ i _. omega (arith, (late_grows m mark d c i).0)) k h in
+      let b = later m.circuit sound 0 (cycles_before c * d) (late_source (new m mark d) mark c) (late_source m mark c)
+      (λ i _. omega (arith, (late_grows m mark d c i).1)) k h in
+      (omega arith, omega arith);
+  early_grows = λ c k h.
+      let a = sooner m.circuit sound 0 0 (early_source m mark c) (early_source (new m mark d) mark c)
+      (λ i _. omega (arith, (early_grows m mark d c i).0)) k h in
+      let b = sooner m.circuit sound 0 d (early_source (new m mark d) mark c) (early_source m mark c)
+      (λ i _. omega (arith, (early_grows m mark d c i).1)) k h in
+      (omega arith, omega arith);
+}

@@ -102,6 +102,21 @@ pub record TimesOfCycles (m : Board) (mark : ℕ → Mark) : Type 0 where
 abbrev pub CaptureTimes : Type 0
 CaptureTimes = (m : Board) (mark : ℕ → Mark) → Marked m mark → Sound m.circuit → TimesOfCycles m mark
 
+-- With a period that is longer by d latest times grow by nothing to d for each cycle before, and earliest times by
+-- nothing to d. So a setup margin grows by d at an unmarked register, and by d to twice d at another, and no hold
+-- margin shrinks
+pub record TimesByPeriod (m new : Board) (mark : ℕ → Mark) (d : ℕ) : Type 0 where
+  pub late_grows : (c : Mark) (k : ℕ) → k < signals m.circuit →
+      (late_time m mark c k ≤ late_time new mark c k)
+      × (late_time new mark c k ≤ cycles_before c * d + late_time m mark c k)
+  pub early_grows : (c : Mark) (k : ℕ) → k < signals m.circuit →
+      (early_time m mark c k ≤ early_time new mark c k) × (early_time new mark c k ≤ d + early_time m mark c k)
+
+abbrev pub LongerPeriod : Type 0
+LongerPeriod =
+    (m : Board) (mark : ℕ → Mark) (d : ℕ) → Sound m.circuit →
+    TimesByPeriod m (record m { period = m.period + d }) mark d
+
 -- `Odd` and `Second` have one set of times, so that a board has three sets at most
 abbrev pub SecondIsOdd : Type 0
 SecondIsOdd =

@@ -4,7 +4,8 @@
 ghost use Rattle.board.specs.Promise.{Promise, InWindow, FewerTakes, CountedToFirst, Narrower, Slower};
 ghost use Rattle.board.specs.Promise.{BaseIsBoard, CanGo};
 ghost use Rattle.board.specs.Marks.{TwoCycles, OneCycle, TwoPeriods};
-ghost use Rattle.board.specs.Capture.{PassedByCapture, CaptureTimes, SecondIsOdd, UnmarkedIsPlain};
+ghost use Rattle.board.specs.Capture.{PassedByCapture, CaptureTimes, LongerPeriod};
+ghost use Rattle.board.specs.Capture.{SecondIsOdd, UnmarkedIsPlain};
 ghost use Rattle.board.specs.FirstCycle.{FirstCycleMatters};
 ghost use Rattle.promise.specs.Promise as base;
 
@@ -107,6 +108,13 @@ pub fn passed_by_capture() -> u8
 /// The arrival times in these sums are those of a cycle, or of an unmarked register the worse of two cycles in a row.
 pub fn capture_times() -> u8
     ensures { CaptureTimes }
+{
+    0
+}
+
+/// With a period that is longer by d latest times at unmarked registers stay, and at others grow by at most d.
+pub fn longer_period() -> u8
+    ensures { LongerPeriod }
 {
     0
 }
