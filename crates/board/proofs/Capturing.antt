@@ -15,7 +15,8 @@ use Rattle.board.specs.Marks.{takes_by, Marked, KeptIn, TwoCycles}
 use Rattle.board.specs.Capture.{in_phase, out_of_phase, cycles_before, launch_offset, held_over, late_source}
 use Rattle.board.specs.Capture.{early_source}
 use Rattle.board.specs.Capture.{late_time, early_time, MetByCapture, TimesOfCycles, PassedByCapture, CaptureTimes}
-use Rattle.board.specs.Capture.{LongerPeriod, SecondIsOdd, UnmarkedIsPlain}
+use Rattle.board.specs.Capture.{LongerPeriod, SecondIsOdd, UnmarkedIsPlain, PlainTimes, MachineTimes, plain_late}
+use Rattle.board.specs.Capture.{plain_early}
 use Rattle.board.specs.Promise.{board_of}
 use Rattle.promise.specs.Machine as base
 use Rattle.board.proofs.Keeping.{since_register, since_input, until_register, until_input, launch_anew, launch_before}
@@ -445,17 +446,37 @@ unmarked_held Odd = refl
 unmarked_held Even = refl
 unmarked_held Second = refl
 
-pub unmarked_is_plain : UnmarkedIsPlain
-unmarked_is_plain m mark formed = record {
-  late_plain = agrees Late m.circuit (late_source (board_of m) mark Every) (base.since m) formed.sound
-      (λ i h.
-      let t = ap (λ (x : ℕ). x * m.period) (unmarked_launch (mark i)) in
-      omega (arith, late_register (board_of m) mark Every i (omega (arith, formed.sources))));
-  early_plain = agrees Early m.circuit (early_source (board_of m) mark Every) (base.still_for m) formed.sound
-      (λ i h.
-      let t = ap (λ (x : ℕ). x * m.period) (unmarked_held (mark i)) in
-      omega (arith, early_register (board_of m) mark Every i (omega (arith, formed.sources))));
+plain : (m : Board) (mark : ℕ → Mark) → Sound m.circuit → PlainTimes m mark
+plain m mark sound = record {
+  late_plain = agrees Late m.circuit (late_source m mark Every) (plain_late m) sound (λ i _. late i);
+  early_plain = agrees Early m.circuit (early_source m mark Every) (plain_early m) sound (λ i _. early i);
 }
+  where
+    late : (i : ℕ) → late_source m mark Every i ≡ plain_late m i
+    late i =
+        let a : 0 * m.period + (m.late i + m.output_late) ≡ m.late i + m.output_late = omega arith in
+        let b : 0 * m.period + m.input_late i ≡ m.input_late i = omega arith in
+        rw (unmarked_launch (mark i), a, b) refl
+
+    early : (i : ℕ) → early_source m mark Every i ≡ plain_early m i
+    early i =
+        let a : 0 * m.period + (m.early i + m.output_early) ≡ m.early i + m.output_early = omega arith in
+        rw (unmarked_held (mark i), a) refl
+
+machine : (m : base.Machine) (mark : ℕ → Mark) → base.Formed m → MachineTimes m mark
+machine m mark formed = record {
+  late_machine = λ k h.
+      (plain (board_of m) mark formed.sound).late_plain k h
+      ∙ agrees Late m.circuit (plain_late (board_of m)) (base.since m) formed.sound
+      (λ i q. cond-true _ _ _ (lt-ltb i m.registers (omega (arith, formed.sources)))) k h;
+  early_machine = λ k h.
+      (plain (board_of m) mark formed.sound).early_plain k h
+      ∙ agrees Early m.circuit (plain_early (board_of m)) (base.still_for m) formed.sound
+      (λ i q. cond-true _ _ _ (lt-ltb i m.registers (omega (arith, formed.sources)))) k h;
+}
+
+pub unmarked_is_plain : UnmarkedIsPlain
+unmarked_is_plain = (plain, machine)
 
 -- marks that are in phase give the sources one set of times
 second_launch : (s : Mark) → launch_offset Second s ≡ launch_offset Odd s

@@ -36,13 +36,13 @@ cycles_before Odd = 1
 cycles_before Even = 1
 cycles_before Second = 1
 
--- how many cycles after that a source launches what is captured: one that is in phase with the capturing register
--- launches as it captures, two cycles before the capture, and each other source in the worst case one cycle before it
+-- how many cycles after that a source launches what is captured: a source that is in phase with the capturing register
+-- launches it two cycles before the capture, and each other source in the worst case one cycle before
 abbrev pub launch_offset : (capture launch : Mark) → ℕ
 launch_offset c s = cond (in_phase c s) 0 (cycles_before c)
 
--- Earliest times count from the end of the cycle at whose end a register captures. So many cycles longer a source holds
--- its bit: one that is out of phase with the capturing register does not take there, and holds it until a cycle later
+-- Earliest times count from the end of the cycle at whose end a register captures. For how many cycles more a source
+-- holds its bit: one that is out of phase with the capturing register does not take there, but a cycle later
 abbrev pub held_over : (capture launch : Mark) → ℕ
 held_over c s = cond (out_of_phase c s) 1 0
 
@@ -82,10 +82,10 @@ pub record MetByCapture (m : Board) (mark : ℕ → Mark) : Type 0 where
 abbrev pub PassedByCapture : Type 0
 PassedByCapture = (m : Board) (mark : ℕ → Mark) → Marked m mark → Passed m ↔ MetByCapture m mark
 
--- Which cycles these times are of. Those of a marked capture are of each cycle, from cycle 3 on, at whose end registers
--- with that mark take: so of cycle 3 for `Odd` and `Second`, and of cycle 4 for `Even`. Those of an unmarked capture
--- are the worse of two cycles in a row, from cycle 3 on, each counted from its own beginning or end: so of cycles 3 and
--- 4
+-- The cycles that these times are of. The times at a marked capture are those of each cycle, from cycle 3 on, at whose
+-- end registers with that mark take: cycle 3 is looked at for `Odd` and `Second`, and cycle 4 for `Even`. The times at
+-- an unmarked capture are the worse of two cycles in a row, from cycle 3 on, each counted from its own beginning or
+-- end: cycles 3 and 4 are looked at, by one set of times
 pub record TimesOfCycles (m : Board) (mark : ℕ → Mark) : Type 0 where
   pub late_marked : (c : Mark) (n k : ℕ) → k < signals m.circuit → cycles_before c ≡ 1 → 2 ≤ n →
       takes_by c (suc n) ≡ true →
@@ -94,10 +94,11 @@ pub record TimesOfCycles (m : Board) (mark : ℕ → Mark) : Type 0 where
       takes_by c (suc n) ≡ true →
       first_change m (suc n) k ≡ suc (suc n) * m.period + early_time m mark c k
   pub late_unmarked : (n k : ℕ) → k < signals m.circuit → 3 ≤ n →
-      max (m.period + last_change m n k) (last_change m (suc n) k) ≡ suc n * m.period + late_time m mark Every k
+      max (m.period + last_change m n k) (last_change m (suc n) k)
+      ≡ suc n * m.period + late_time m mark Every k
   pub early_unmarked : (n k : ℕ) → k < signals m.circuit → 3 ≤ n →
-      min (m.period + first_change m n k) (first_change m (suc n) k) ≡ suc
-      (suc n) * m.period + early_time m mark Every k
+      min (m.period + first_change m n k) (first_change m (suc n) k)
+      ≡ suc (suc n) * m.period + early_time m mark Every k
 
 abbrev pub CaptureTimes : Type 0
 CaptureTimes = (m : Board) (mark : ℕ → Mark) → Marked m mark → Sound m.circuit → TimesOfCycles m mark
@@ -123,11 +124,24 @@ SecondIsOdd =
     (m : Board) (mark : ℕ → Mark) → Sound m.circuit → (k : ℕ) → k < signals m.circuit →
     (late_time m mark Second k ≡ late_time m mark Odd k) × (early_time m mark Second k ≡ early_time m mark Odd k)
 
--- the times of an unmarked capture do not depend on the marks of the sources, and where the board is that of a machine
--- they are the machine's
-pub record PlainTimes (m : base.Machine) (mark : ℕ → Mark) : Type 0 where
-  pub late_plain : (k : ℕ) → k < signals m.circuit → late_time (board_of m) mark Every k ≡ base.last_change m k
-  pub early_plain : (k : ℕ) → k < signals m.circuit → early_time (board_of m) mark Every k ≡ base.first_change m k
+-- times of the sources with no marks: from the beginning of the cycle, and from its end
+abbrev pub plain_late : Board → (i : ℕ) → ℕ
+plain_late m i = cond (nat_lt i m.registers) (m.late i + m.output_late) (m.input_late i)
+
+abbrev pub plain_early : Board → (i : ℕ) → ℕ
+plain_early m i = cond (nat_lt i m.registers) (m.early i + m.output_early) (m.input_early i)
+
+-- the times at an unmarked capture are over these, whatever the marks of the sources are
+pub record PlainTimes (m : Board) (mark : ℕ → Mark) : Type 0 where
+  pub late_plain : (k : ℕ) → k < signals m.circuit → late_time m mark Every k ≡ latest m.circuit (plain_late m) k
+  pub early_plain : (k : ℕ) → k < signals m.circuit → early_time m mark Every k ≡ earliest m.circuit (plain_early m) k
+
+-- where the board is that of a machine they are the machine's
+pub record MachineTimes (m : base.Machine) (mark : ℕ → Mark) : Type 0 where
+  pub late_machine : (k : ℕ) → k < signals m.circuit → late_time (board_of m) mark Every k ≡ base.last_change m k
+  pub early_machine : (k : ℕ) → k < signals m.circuit → early_time (board_of m) mark Every k ≡ base.first_change m k
 
 abbrev pub UnmarkedIsPlain : Type 0
-UnmarkedIsPlain = (m : base.Machine) (mark : ℕ → Mark) → base.Formed m → PlainTimes m mark
+UnmarkedIsPlain =
+    ((m : Board) (mark : ℕ → Mark) → Sound m.circuit → PlainTimes m mark)
+    × ((m : base.Machine) (mark : ℕ → Mark) → base.Formed m → MachineTimes m mark)

@@ -12,8 +12,8 @@ abbrev pub GoesWrong : Board → Type 0
 GoesWrong m =
     (x : Trace) × Run m x × ((n : ℕ) × (r : ℕ) × (r < m.registers) × (x.holds n r ≢ reference m x.start x.outside n r))
 
--- a register whose bit comes back to it through a gate, at the ends of cycles 0, 2, 4 and so on. In cycle 0 its output
--- changes until moment 2, the gate is 3 moments behind, and the cycle ends at moment 4
+-- a register that takes its own bit through a gate, at the ends of cycles 0, 2, 4 and so on. In cycle 0 its output
+-- changes until moment 2, the gate has a delay of up to 3 moments, and the cycle ends at moment 4
 abbrev pub even_from_zero : Board
 even_from_zero = record {
   registers = 1;

@@ -20,7 +20,7 @@ pub fn promise_kept() -> u8
     0
 }
 
-/// In each cycle every signal of a passed board is the reference's bit in its window.
+/// In each cycle every signal of a passed board shows the reference's bit in its window.
 pub fn in_window() -> u8
     ensures { InWindow }
 {
@@ -98,7 +98,7 @@ pub fn two_periods() -> u8
     0
 }
 
-/// A board with marks is passed exactly if two sums are right at each register, as its own mark has them.
+/// A board with marks is passed exactly if two sums are right at each register, over arrival times for its own mark.
 pub fn passed_by_capture() -> u8
     ensures { PassedByCapture }
 {
@@ -126,7 +126,7 @@ pub fn second_is_odd() -> u8
     0
 }
 
-/// The arrival times at an unmarked register are those of a machine, whatever the marks of the sources are.
+/// The arrival times at an unmarked register have no marks in them, and where there are no inputs are a machine's.
 pub fn unmarked_is_plain() -> u8
     ensures { UnmarkedIsPlain }
 {
