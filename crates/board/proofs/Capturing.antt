@@ -24,7 +24,7 @@ use Rattle.board.proofs.Keeping.{until_next, until_after}
 use Rattle.board.proofs.Comparing.{worse_of_two, later, sooner, times_more, launch_by_now, until_past_now}
 use Rattle.board.proofs.Cycles.{one_of_two}
 
--- which of two marks takes when
+-- `Odd` and `Even` take in turn
 even_is : (n : ℕ) → takes_by Even (suc n) ≡ eqb (suc n % 2) 0
 even_is n = rw (lt-ltb 0 (suc n) (omega arith)) refl
 
@@ -55,7 +55,7 @@ even_now zero e = refl
 even_now (suc n) e =
     let o = eqb-true (suc n % 2) 0 (sym (even_is n) ∙ e) in ne_eqb (suc n % 2) 1 (λ z. omega arith)
 
--- where a register captures at a cycle's end, a source of the same cycles did not take at the beginning
+-- a source in phase with a capturing register does not take at the beginning of the cycle of capture
 in_phase_before : (c s : Mark) (n : ℕ) → takes_by c (suc n) ≡ true → in_phase c s ≡ true → takes_by s n ≡ false
 in_phase_before Odd Odd n e f = odd_before n e
 in_phase_before Odd Second n e f = odd_before n e
@@ -71,7 +71,7 @@ in_phase_before Even Every n e f = absurd (true≢false (sym f))
 in_phase_before Even Odd n e f = absurd (true≢false (sym f))
 in_phase_before Even Second n e f = absurd (true≢false (sym f))
 
--- and where its mark is not `Every`, each other one did
+-- and if the capturing mark is not `Every`, each other source does
 rest_before : (c s : Mark) (n : ℕ) → 1 ≤ n → takes_by c (suc n) ≡ true → cycles_before c ≡ 1 → in_phase c s ≡ false →
     takes_by s n ≡ true
 rest_before Every s n h e one f = absurd (omega arith)
@@ -86,7 +86,7 @@ rest_before Second Odd n h e one f = absurd (true≢false f)
 rest_before Second Second n h e one f = absurd (true≢false f)
 rest_before Even Even n h e one f = absurd (true≢false f)
 
--- a source of the other cycles does not take at the end, and where the mark is not `Every`, each other one does
+-- a source out of phase with it does not take at the end, and if the capturing mark is not `Every`, each other one does
 out_of_phase_now : (c s : Mark) (n : ℕ) → takes_by c n ≡ true → out_of_phase c s ≡ true → takes_by s n ≡ false
 out_of_phase_now Odd Even n e f = odd_now n e
 out_of_phase_now Second Even n e f = odd_now n e
@@ -122,7 +122,7 @@ at_most_one Odd = omega arith
 at_most_one Even = omega arith
 at_most_one Second = omega arith
 
--- who captures at the end of cycle 0 captures in every cycle
+-- a register that captures at the end of cycle 0 is unmarked
 first_unmarked : (c : Mark) → takes_by c 0 ≡ true → cycles_before c ≡ 0
 first_unmarked Every e = refl
 first_unmarked Odd e = absurd (true≢false (sym e))
@@ -145,7 +145,7 @@ module _ (m : Board) (mark : ℕ → Mark) (c : Mark) (i : ℕ) where
   early_input h = cond-false _ _ _ (le-ltb i m.registers h)
 
 module _ (m : Board) (mark : ℕ → Mark) (marked : Marked m mark) where
-  -- no launch is later, in a cycle of capture, than the view has it
+  -- no launch is later, in a cycle of capture, than the sums have it
   launch_within : (c : Mark) (n r : ℕ) → takes_by c n ≡ true →
       cycles_before c + launch_cycle m r n ≤ n + launch_offset c (mark r)
   launch_within c zero r e = let f = first_unmarked c e in omega (arith, launch_by_now m r 0)
@@ -159,7 +159,7 @@ module _ (m : Board) (mark : ℕ → Mark) (marked : Marked m mark) where
         omega (arith, launch_by_now m r (suc n))
   ]
 
-  -- and no bit ends sooner
+  -- and no bit changes sooner
   until_within : (c : Mark) (n r : ℕ) → takes_by c n ≡ true → suc n + held_over c (mark r) ≤ until_cycle m r n
   until_within c n r e = elim (cases_Bool (out_of_phase c (mark r))) [
     | inl f ↦
@@ -217,7 +217,7 @@ module _ (m : Board) (mark : ℕ → Mark) (marked : Marked m mark) where
         omega (arith, right.hold_met r h);
   }
 
-  -- a marked capture in cycle 3 or later has just these times
+  -- at a marked capture in cycle 3 or later the times are just these
   launch_at : (c : Mark) (n r : ℕ) → cycles_before c ≡ 1 → 2 ≤ n → takes_by c (suc n) ≡ true →
       launch_cycle m r (suc n) ≡ n + launch_offset c (mark r)
   launch_at c zero r one h e = absurd (omega arith)
@@ -279,7 +279,7 @@ module _ (m : Board) (mark : ℕ → Mark) (marked : Marked m mark) where
     | inr q ↦ omega (arith, until_input m n i q, early_input m mark c i q)
   ]
 
-  -- and an unmarked one the worse of two cycles in a row
+  -- and at an unmarked one the worse of two cycles in a row
   since_every : (n i : ℕ) → 2 ≤ n →
       max (m.period + since m n i) (since m (suc n) i) ≡ suc n * m.period + late_source m mark Every i
   since_every zero i h = absurd (omega arith)
@@ -433,7 +433,7 @@ passed_by_capture m mark marked = (
 pub two_cycles : TwoCycles
 two_cycles m mark marked formed third fourth = passes m mark marked (right m mark marked formed third fourth)
 
--- an unmarked capture's times are today's
+-- at an unmarked capture no source has a period added
 unmarked_launch : (s : Mark) → launch_offset Every s ≡ 0
 unmarked_launch Every = refl
 unmarked_launch Odd = refl
@@ -478,7 +478,7 @@ machine m mark formed = record {
 pub unmarked_is_plain : UnmarkedIsPlain
 unmarked_is_plain = (plain, machine)
 
--- marks that are in phase give the sources one set of times
+-- `Second` captures as `Odd` does
 second_launch : (s : Mark) → launch_offset Second s ≡ launch_offset Odd s
 second_launch Every = refl
 second_launch Odd = refl

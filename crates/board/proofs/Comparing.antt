@@ -136,8 +136,8 @@ until_in m a b ending i = elim (cases_lt i m.registers) [
   | inr q ↦ omega (arith, until_input m a i q, until_input m b i q)
 ]
 
--- what is right in cycle a is right in cycle b, if the same registers take and no register's stretch begins later or
--- ends sooner, counted from the cycle
+-- what is right in cycle a is right in cycle b, if all registers that take in b take in a, and none launches later or
+-- changes sooner in b, counted from the cycle
 pub as_in : (m : Board) (a b : ℕ) → Formed m →
     ((r : ℕ) → r < m.registers → m.takes_at r b ≡ true → m.takes_at r a ≡ true) →
     ((r : ℕ) → r < m.registers → a + launch_cycle m r b ≤ b + launch_cycle m r a) →
@@ -166,7 +166,7 @@ as_in m a b formed takers begins ending kept = record {
     suc_times : (n p : ℕ) → suc n * p ≡ p + n * p
     suc_times n p = omega arith
 
--- fewer takes
+-- registers that take in fewer cycles launch no later and change no sooner
 module _ (m : Board) (more : ℕ → ℕ → Bool) (sub : (r n : ℕ) → m.takes_at r n ≡ true → more r n ≡ true) where
   launch_less : (r n : ℕ) → launch_cycle m r n ≤ launch_cycle (with_schedule m more) r n
   unfolding launch_cycle
@@ -245,7 +245,7 @@ fewer_takes m more sub passed =
 pub counted_to_first : CountedToFirst
 counted_to_first m passed = fewer_takes m (λ r n. true) (λ r n e. refl) passed
 
--- the same schedule gives the same stretches
+-- one schedule gives one list of launch cycles
 pub same_schedule : (m o : Board) (r : ℕ) → ((n : ℕ) → m.takes_at r n ≡ o.takes_at r n) → (n : ℕ) →
     launch_cycle m r n ≡ launch_cycle o r n
 unfolding launch_cycle

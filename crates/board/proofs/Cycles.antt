@@ -1,4 +1,4 @@
--- How many cycles have to be looked at.
+-- How launches repeat from cycle to cycle where registers take by marks.
 use Rattle.std.proofs.Common.{◌≡◌, ℕ, zero, suc, ◌+◌, ◌*◌, ◌%◌, ◌≤◌, ◌⊎◌, true, false, max, sym, refl, ◌∙◌, inl}
 use Rattle.std.proofs.Common.{inr, arith}
 use Rattle.std.proofs.lemmas.Bool.{cases_lt, cases_eq, cases_Bool, true≢false, lt-ltb, eq-eqb}
@@ -18,14 +18,14 @@ repeats Second n h = let e : suc (suc n) % 2 ≡ n % 2 = omega arith in rw e
 repeats Even n h =
     let e : suc (suc n) % 2 ≡ n % 2 = omega arith in rw (e, lt-ltb 0 (suc (suc n)) (omega arith), lt-ltb 0 n h)
 
--- who takes at the end of cycle 0 takes in every cycle
+-- a register that takes at the end of cycle 0 takes at the end of every cycle
 first_takers : (x : Mark) → takes_by x 0 ≡ true → (n : ℕ) → takes_by x n ≡ true
 first_takers Every e n = refl
 first_takers Odd e n = absurd (true≢false (sym e))
 first_takers Second e n = absurd (true≢false (sym e))
 first_takers Even e n = absurd (true≢false (sym e))
 
--- one of two cycles in a row has a taking at its end
+-- a register takes at the end of one at least of two cycles in a row
 pub one_of_two : (x : Mark) (n : ℕ) → 1 ≤ n → (takes_by x n ≡ true) ⊎ (takes_by x (suc n) ≡ true)
 one_of_two Every n h = inl refl
 one_of_two Odd n h = elim (cases_eq (n % 2) 1) [ inl e ↦ inl (eq-eqb _ _ e) | inr e ↦ inr (eq-eqb _ _ (omega arith)) ]
@@ -40,7 +40,7 @@ module _ (m : Board) (mark : ℕ → Mark) (marked : Marked m mark) where
   pub repeats_at : (r n : ℕ) → 1 ≤ n → m.takes_at r (suc (suc n)) ≡ m.takes_at r n
   repeats_at r n h = marked r (suc (suc n)) ∙ repeats (mark r) n h ∙ sym (marked r n)
 
-  -- two cycles on a stretch begins two cycles later, or in the first cycles later still
+  -- two cycles on a register has launched two cycles later, or in the first cycles later still
   pub launch_on : (r n : ℕ) → 1 ≤ n → launch_cycle m r n + 2 ≤ launch_cycle m r (suc (suc n))
   launch_on r n h = elim (one_of_two (mark r) n h) [
     | inl e ↦
@@ -64,7 +64,7 @@ module _ (m : Board) (mark : ℕ → Mark) (marked : Marked m mark) where
           let e : m.takes_at r (suc n) ≡ false = sym (repeats_at r (suc n) (omega arith)) ∙ f in
           omega (arith, launch_before m r (suc n) e, launch_by_now m r (suc n))
 
-  -- from cycle 3 on just two
+  -- from cycle 3 on just two cycles later
   pub launch_later : (r n : ℕ) → 3 ≤ n → launch_cycle m r (suc (suc n)) ≤ launch_cycle m r n + 2
   launch_later r zero h = absurd (omega arith)
   launch_later r (suc n) h = elim (one_of_two (mark r) n (omega arith)) [
@@ -101,7 +101,7 @@ module _ (m : Board) (mark : ℕ → Mark) (marked : Marked m mark) where
     | inr e ↦ omega (arith, until_after m r n e, until_after m r (suc (suc n)) (repeats_at r n h ∙ e))
   ]
 
--- cycle 0, in which every stretch begins, from both
+-- cycle 0, at whose beginning every register launches, compared with cycles 3 and 4
 module _ (m : Board) (mark : ℕ → Mark) (marked : Marked m mark) where
   pub takes_later : (r n : ℕ) → m.takes_at r 0 ≡ true → m.takes_at r n ≡ true
   takes_later r n e = marked r n ∙ first_takers (mark r) (sym (marked r 0) ∙ e) n
@@ -125,7 +125,7 @@ module _ (m : Board) (mark : ℕ → Mark) (marked : Marked m mark) where
     ]
   ]
 
-  -- no stretch ends sooner, from cycle 0, than from cycle n
+  -- no bit of cycle n changes sooner, counted from the cycle, than that of cycle 0
   pub still_first : (n i : ℕ) → still_until m n i ≤ n * m.period + still_until m 0 i
   still_first n i = elim (cases_lt i m.registers) [
     | inr q ↦ omega (arith, until_input m 0 i q, until_input m n i q)

@@ -20,7 +20,7 @@ use Rattle.board.proofs.Keeping.{launch_before, reference_starts, reference_take
 use Rattle.board.proofs.Keeping.{signal_shows}
 use Rattle.board.proofs.Comparing.{launch_by_now}
 
--- with no period no source is still after it has changed
+-- with the period 0 no source has a window
 pub no_period : (m : Board) → Formed m → m.period ≡ 0 → (n i : ℕ) → i < m.circuit.inputs →
     still_until m n i ≤ since m n i
 no_period m formed none n i h = elim (cases_lt i m.registers) [
@@ -32,7 +32,7 @@ no_period m formed none n i h = elim (cases_lt i m.registers) [
       omega (arith, since_input m n i r, until_input m n i r, formed.inputs_ordered i r h)
 ]
 
--- and no signal
+-- and no signal has one
 ordered : (m : Board) → Formed m → m.period ≡ 0 → (n k : ℕ) → k < signals m.circuit →
     first_change m n k ≤ last_change m n k
 ordered m formed none n = each_signal m.circuit formed.sound (λ k. first_change m n k ≤ last_change m n k)
@@ -63,7 +63,7 @@ positive m passed r n h e = elim (cases_eq m.period 0) [
       ))
 ]
 
--- a cycle in which a register's stretch begins is not past the moments, as cycles take time
+-- a launch cycle's number is at most its moment, as cycles take time where registers take
 launch_soon : (m : Board) → ((r n : ℕ) → r < m.registers → m.takes_at r n ≡ true → 1 ≤ m.period) → (r n : ℕ) →
     r < m.registers → launch_cycle m r n ≤ launch_cycle m r n * m.period
 launch_soon m pos r zero h = let z = launch_by_now m r 0 in omega arith
@@ -72,7 +72,7 @@ launch_soon m pos r (suc n) h = elim (cases_Bool (m.takes_at r n)) [
   | inr e ↦ rw (launch_before m r n e) (launch_soon m pos r n h)
 ]
 
--- the last cycle, up to b, whose clock came d before t or earlier
+-- the last cycle, up to b, whose clock came d moments before t or earlier
 cycle_at : (c : ℕ → ℕ) (d b t : ℕ) → ℕ
 cycle_at c d zero t = 0
 cycle_at c d (suc b) t = cond (leb (c (suc b) + d) t) (suc b) (cycle_at c d b t)
@@ -81,8 +81,8 @@ cycle_between : (c : ℕ → ℕ) → ((j : ℕ) → c j ≤ c (suc j)) → (d b
     t < c (suc n) + d →
     (a ≤ cycle_at c d b t) × (cycle_at c d b t ≤ n)
 unfolding cycle_at
-cycle_between c order d zero t a n le in_stretch now next = (omega arith, omega arith)
-cycle_between c order d (suc b) t a n le in_stretch now next = elim (cases_Bool (leb (c (suc b) + d) t)) [
+cycle_between c order d zero t a n le launched now next = (omega arith, omega arith)
+cycle_between c order d (suc b) t a n le launched now next = elim (cases_Bool (leb (c (suc b) + d) t)) [
   | inl e ↦
       let came = leb-true _ _ e in
       rw e (elim (cases_lt n (suc b)) [
@@ -93,7 +93,7 @@ cycle_between c order d (suc b) t a n le in_stretch now next = elim (cases_Bool 
       let not_yet = leb-false _ _ e in
       rw e (elim (cases_eq a (suc b)) [
         | inl same ↦ absurd (let now' = rw same at now in omega arith)
-        | inr other ↦ cycle_between c order d b t a n (omega arith) in_stretch now next
+        | inr other ↦ cycle_between c order d b t a n (omega arith) launched now next
       ])
 ]
   where
@@ -142,16 +142,16 @@ module _ (m : Board) (start : ℕ → Bool) (outside : ℕ → ℕ → Bool) (cl
       (reference m start outside (cycle_at (λ n. clock n i) m.output_late t t) i)
       (outside (cycle_at (λ n. n * m.period) (m.input_late i) t t) i)
 
-  -- the reference's bit is one along a register's stretch
-  along_stretch : (r n j : ℕ) → r < m.registers → launch_cycle m r n ≤ j → j ≤ n →
+  -- the reference's bit stays as it is from a register's launch on
+  from_launch : (r n j : ℕ) → r < m.registers → launch_cycle m r n ≤ j → j ≤ n →
       reference m start outside n r ≡ reference m start outside j r
-  along_stretch r zero j h a z = let e : j ≡ 0 = omega arith in rw e
-  along_stretch r (suc n) j h a z = elim (cases_eq j (suc n)) [
+  from_launch r zero j h a z = let e : j ≡ 0 = omega arith in rw e
+  from_launch r (suc n) j h a z = elim (cases_eq j (suc n)) [
     | inl e ↦ rw e
     | inr e ↦ elim (cases_Bool (m.takes_at r n)) [
       | inl f ↦ absurd (omega (arith, launch_anew m r n f))
       | inr f ↦ reference_keeps m start outside n r h f
-          ∙ along_stretch r n j h (rw (launch_before m r n f) at a) (omega arith)
+          ∙ from_launch r n j h (rw (launch_before m r n f) at a) (omega arith)
     ]
   ]
 
@@ -165,7 +165,7 @@ module _ (m : Board) (start : ℕ → Bool) (outside : ℕ → ℕ → Bool) (cl
         let between = cycle_between (λ n. clock n r) (λ j. order j r h) m.output_late t t (launch_cycle m r n) n
         (omega arith) (launch_by_now m r n) a (omega (arith, f.output_ordered)) in
         is r t (omega (arith, f.sources)) ∙ cond-true _ _ _ (lt-ltb r m.registers h)
-        ∙ sym (along_stretch r n (cycle_at (λ n. clock n r) m.output_late t t) h between.0 between.1)
+        ∙ sym (from_launch r n (cycle_at (λ n. clock n r) m.output_late t t) h between.0 between.1)
 
     comes : (n i t : ℕ) → m.registers ≤ i → i < m.circuit.inputs → n * m.period + m.input_late i ≤ t →
         t < suc n * m.period + m.input_early i → w i t ≡ outside n i

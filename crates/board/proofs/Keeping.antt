@@ -28,7 +28,7 @@ module _ (m : Board) (n i : ℕ) where
   unfolding still_until
   until_input h = cond-false _ _ _ (le-ltb i m.registers h)
 
--- a register's stretch
+-- when a register launches what it holds, and until when it holds it
 module _ (m : Board) (r n : ℕ) where
   pub launch_anew : m.takes_at r n ≡ true → launch_cycle m r (suc n) ≡ suc n
   unfolding launch_cycle
@@ -44,7 +44,7 @@ module _ (m : Board) (r n : ℕ) where
   pub until_after : m.takes_at r n ≡ false → until_cycle m r n ≡ suc (suc n)
   until_after e = cond-false _ _ _ e
 
--- the reference's sources
+-- the bits of the sources in the reference
 module _ (m : Board) (start : ℕ → Bool) (outside : ℕ → ℕ → Bool) where
   pub reference_outside : (n i : ℕ) → m.registers ≤ i → reference m start outside n i ≡ outside n i
   unfolding reference
