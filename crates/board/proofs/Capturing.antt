@@ -5,7 +5,7 @@ use Rattle.std.proofs.Common.{arith}
 use Rattle.std.proofs.Math.Nat.{add-mul, mul-add}
 use Rattle.std.proofs.lemmas.Bool.{cases_lt, ne_eqb, cases_Bool, true≢false, lt-ltb, le-ltb, eq-eqb, eqb-true}
 use Rattle.std.proofs.lemmas.Bool.{cond-true, cond-false}
-use Rattle.circuit.specs.Circuit.{Sound}
+use Rattle.circuit.specs.Circuit.{signals, Sound}
 use Rattle.arrival.specs.declared.edge.Edge.TheVariants.{Late, Early}
 use Rattle.arrival.proofs.ArrivalLaws.{shifts, agrees}
 use Rattle.board.specs.declared.mark.Mark.{Mark}
@@ -553,18 +553,39 @@ module _ (m : Board) (mark : ℕ → Mark) (d : ℕ) where
     )
   ]
 
-pub longer_period : LongerPeriod
-longer_period m mark d sound = record {
-  late_grows = λ c k h.
+module _ (m : Board) (mark : ℕ → Mark) (d : ℕ) (sound : Sound m.circuit) (c : Mark) (k : ℕ)
+    (h : k < signals m.circuit) where
+  late_time_grows : (late_time m mark c k ≤ late_time (new m mark d) mark c k)
+      × (late_time (new m mark d) mark c k ≤ cycles_before c * d + late_time m mark c k)
+  late_time_grows =
       let a = later m.circuit sound 0 0 (late_source m mark c) (late_source (new m mark d) mark c)
       (λ i _. omega (arith, (late_grows m mark d c i).0)) k h in
       let b = later m.circuit sound 0 (cycles_before c * d) (late_source (new m mark d) mark c) (late_source m mark c)
       (λ i _. omega (arith, (late_grows m mark d c i).1)) k h in
-      (omega arith, omega arith);
-  early_grows = λ c k h.
+      (omega arith, omega arith)
+
+  early_time_grows : (early_time m mark c k ≤ early_time (new m mark d) mark c k)
+      × (early_time (new m mark d) mark c k ≤ d + early_time m mark c k)
+  early_time_grows =
       let a = sooner m.circuit sound 0 0 (early_source m mark c) (early_source (new m mark d) mark c)
       (λ i _. omega (arith, (early_grows m mark d c i).0)) k h in
       let b = sooner m.circuit sound 0 d (early_source (new m mark d) mark c) (early_source m mark c)
       (λ i _. omega (arith, (early_grows m mark d c i).1)) k h in
-      (omega arith, omega arith);
+      (omega arith, omega arith)
+
+pub longer_period : LongerPeriod
+longer_period m mark d formed = record {
+  late_grows = λ c k h. late_time_grows m mark d formed.sound c k h;
+  early_grows = λ c k h. early_time_grows m mark d formed.sound c k h;
+  slack_grows = λ r x h slack.
+      let g = late_time_grows m mark d formed.sound (mark r) (m.takes r) (formed.taken r h) in
+      let e = mul-add (cycles_before (mark r)) m.period d in
+      omega arith;
+  slack_grows_at_most = λ r x h slack.
+      let g = late_time_grows m mark d formed.sound (mark r) (m.takes r) (formed.taken r h) in
+      let e = mul-add (cycles_before (mark r)) m.period d in
+      omega arith;
+  hold_stays = λ r h met.
+      let g = early_time_grows m mark d formed.sound (mark r) (m.takes r) (formed.taken r h) in
+      omega arith;
 }

@@ -103,20 +103,27 @@ pub record TimesOfCycles (m : Board) (mark : ℕ → Mark) : Type 0 where
 abbrev pub CaptureTimes : Type 0
 CaptureTimes = (m : Board) (mark : ℕ → Mark) → Marked m mark → Sound m.circuit → TimesOfCycles m mark
 
--- With a period that is longer by d latest times grow by nothing to d for each cycle before, and earliest times by
--- nothing to d. So a setup margin grows by d at an unmarked register, and by d to twice d at another, and no hold
--- margin shrinks
+-- the setup slack of register r is at least x
+abbrev pub SetupSlack : Board → (mark : ℕ → Mark) → (r x : ℕ) → Type 0
+SetupSlack m mark r x =
+    late_time m mark (mark r) (m.takes r) + m.setup + x ≤ suc (cycles_before (mark r)) * m.period + m.early r
+
+-- With a period that is longer by d latest times grow by at most d for each cycle before, and earliest times by at most
+-- d. So setup slack grows by d at an unmarked register, and by d to twice d at another, and no hold sum goes wrong
 pub record TimesByPeriod (m new : Board) (mark : ℕ → Mark) (d : ℕ) : Type 0 where
   pub late_grows : (c : Mark) (k : ℕ) → k < signals m.circuit →
       (late_time m mark c k ≤ late_time new mark c k)
       × (late_time new mark c k ≤ cycles_before c * d + late_time m mark c k)
   pub early_grows : (c : Mark) (k : ℕ) → k < signals m.circuit →
       (early_time m mark c k ≤ early_time new mark c k) × (early_time new mark c k ≤ d + early_time m mark c k)
+  pub slack_grows : (r x : ℕ) → r < m.registers → SetupSlack m mark r x → SetupSlack new mark r (x + d)
+  pub slack_grows_at_most : (r x : ℕ) → r < m.registers →
+      SetupSlack new mark r (x + suc (cycles_before (mark r)) * d) → SetupSlack m mark r x
+  pub hold_stays : (r : ℕ) → r < m.registers → HoldMet m mark r → HoldMet new mark r
 
 abbrev pub LongerPeriod : Type 0
 LongerPeriod =
-    (m : Board) (mark : ℕ → Mark) (d : ℕ) → Sound m.circuit →
-    TimesByPeriod m (record m { period = m.period + d }) mark d
+    (m : Board) (mark : ℕ → Mark) (d : ℕ) → Formed m → TimesByPeriod m (record m { period = m.period + d }) mark d
 
 -- `Odd` and `Second` have one set of times, so that a board has three sets at most
 abbrev pub SecondIsOdd : Type 0

@@ -112,7 +112,7 @@ pub fn capture_times() -> u8
     0
 }
 
-/// With a period that is longer by d latest times at unmarked registers stay, and at others grow by at most d.
+/// With a period that is longer by d setup slack grows by d at an unmarked register, and by d to twice d at another.
 pub fn longer_period() -> u8
     ensures { LongerPeriod }
 {
