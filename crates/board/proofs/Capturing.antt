@@ -17,7 +17,7 @@ use Rattle.board.specs.Capture.{early_source}
 use Rattle.board.specs.Capture.{late_time, early_time, MetByCapture, TimesOfCycles, PassedByCapture, CaptureTimes}
 use Rattle.board.specs.Capture.{LongerPeriod, SecondIsOdd, UnmarkedIsPlain, PlainTimes, MachineTimes, plain_late}
 use Rattle.board.specs.Capture.{plain_early}
-use Rattle.board.specs.Promise.{board_of}
+use Rattle.board.specs.Promise.{board_of, with_period}
 use Rattle.promise.specs.Machine as base
 use Rattle.board.proofs.Keeping.{since_register, since_input, until_register, until_input, launch_anew, launch_before}
 use Rattle.board.proofs.Keeping.{until_next, until_after}
@@ -506,7 +506,7 @@ second_is_odd m mark sound k h = (
 -- a longer period
 module _ (m : Board) (mark : ℕ → Mark) (d : ℕ) where
   abbrev new : Board
-  new = record m { period = m.period + d }
+  new = with_period m (m.period + d)
 
   offset_less : (c s : Mark) → launch_offset c s ≤ cycles_before c
   offset_less c s = elim (cases_Bool (in_phase c s)) [

@@ -11,7 +11,7 @@ use Rattle.arrival.specs.declared.edge.Edge.TheVariants.{Late, Early}
 use Rattle.arrival.specs.Arrival.{CircuitWithin, arrival, choose, latest, earliest}
 use Rattle.arrival.proofs.ArrivalLaws.{arrival_in, arrival_at, monotone, shifts}
 use Rattle.board.specs.Board.{Board, Formed, launch_cycle, until_cycle, since, still_until}
-use Rattle.board.specs.Promise.{with_schedule, FewerTakes, CountedToFirst, Within, Narrower, Slower}
+use Rattle.board.specs.Promise.{with_schedule, with_period, FewerTakes, CountedToFirst, Within, Narrower, Slower}
 use Rattle.board.specs.Marks.{KeptIn}
 use Rattle.board.proofs.Keeping.{since_register, since_input, until_register, until_input, until_next, until_after}
 
@@ -331,7 +331,7 @@ narrower new old v passed = record {
 pub slower : Slower
 slower m p longer passed =
     let f = passed.formed in
-    narrower (record m { period = p }) m
+    narrower (with_period m p) m
     (record {
       registers_same = refl;
       circuit_within = within_self m.circuit;

@@ -8,7 +8,7 @@ use Rattle.board.specs.declared.mark.Mark.{Mark}
 use Rattle.board.specs.declared.mark.Mark.TheVariants.{Every, Odd, Even, Second}
 use Rattle.board.specs.Board.{Board, Formed, Passed, last_change, first_change}
 use Rattle.board.specs.Marks.{takes_by, Marked}
-use Rattle.board.specs.Promise.{board_of}
+use Rattle.board.specs.Promise.{board_of, with_period}
 
 -- two marks are in phase if registers with them take at the ends of odd cycles alone, or both at the ends of even
 -- cycles alone
@@ -123,7 +123,7 @@ pub record TimesByPeriod (m new : Board) (mark : ℕ → Mark) (d : ℕ) : Type 
 
 abbrev pub LongerPeriod : Type 0
 LongerPeriod =
-    (m : Board) (mark : ℕ → Mark) (d : ℕ) → Formed m → TimesByPeriod m (record m { period = m.period + d }) mark d
+    (m : Board) (mark : ℕ → Mark) (d : ℕ) → Formed m → TimesByPeriod m (with_period m (m.period + d)) mark d
 
 -- `Odd` and `Second` have one set of times, so that a board has three sets at most
 abbrev pub SecondIsOdd : Type 0

@@ -90,12 +90,17 @@ pub record Within (new old : Board) : Type 0 where
   pub hold_within : new.hold ≤ old.hold
   pub period_within : old.period ≤ new.period
 
--- what is passed is so with bounds within the old ones, and with every longer period alone
+-- what is passed is so with bounds within the old ones
 abbrev pub Narrower : Type 0
 Narrower = (new old : Board) → Within new old → Passed old → Passed new
 
+-- a board with another period
+abbrev pub with_period : Board → (p : ℕ) → Board
+with_period m p = record m { period = p }
+
+-- and with every longer period
 abbrev pub Slower : Type 0
-Slower = (m : Board) (p : ℕ) → m.period ≤ p → Passed m → Passed (record m { period = p })
+Slower = (m : Board) (p : ℕ) → m.period ≤ p → Passed m → Passed (with_period m p)
 
 -- clocks of one register come in order
 abbrev pub InOrder : Board → (clock : (n r : ℕ) → ℕ) → Type 0
