@@ -1,0 +1,305 @@
+-- Windows with delays by direction.
+use Rattle.std.proofs.Common.{◌≡◌, ℕ, suc, ◌+◌, ◌-◌, ◌<◌, ◌≤◌, ◌⊎◌, Bool, true, false, not, ◌&&◌, cond, min, max}
+use Rattle.std.proofs.Common.{leb, length, sym, refl, ap₂, subst, ◌∙◌, inl, inr, arith}
+use Rattle.std.proofs.lemmas.Bool.{cases_lt, cases_Bool, leb-true, le-ltb, cond-true, cond-false, cond_both, and_cases}
+use Rattle.std.proofs.lemmas.Bool.{or_parts, or_left, not-false, both_ways}
+use Rattle.circuit.specs.Gate.{output}
+use Rattle.circuit.specs.declared.gate.Gate.{Gate}
+use Rattle.circuit.specs.Circuit.{Circuit, gate, signals, Sound}
+use Rattle.circuit.proofs.Signals.{all_in, all_at, each_signal}
+use Rattle.drawing.specs.Drawing.{ideal}
+use Rattle.drawing.proofs.IdealLaws.{ideal_in, ideal_at}
+use Rattle.arrival.specs.declared.edge.Edge.TheVariants.{Late, Early}
+use Rattle.arrival.specs.Arrival.{latest, earliest}
+use Rattle.arrival.specs.Window.{Wave}
+use Rattle.arrival.proofs.ArrivalLaws.{arrival_in, arrival_at}
+use Rattle.board.specs.Run.{Trace}
+use Rattle.board.specs.Board.{Board, reference, since, still_until}
+use Rattle.rise_fall.specs.RiseFall.{Bounds, GateBounds, longest, ago, LastTo, Sees, Stable, delay_late, from_by}
+use Rattle.rise_fall.specs.RiseFall.{until_by, equal_bits, makes, is_constant, has_arc, swapped, smaller, larger}
+use Rattle.rise_fall.specs.RiseFall.{soonest, longest_still, gate_stable, stable, RiseFallWindow, RiseFallMoves}
+use Rattle.rise_fall.specs.RiseFall.{BoundsInGate, NoWorseThanWidest, MovesWithin}
+use Rattle.rise_fall.specs.Promise.{stable_in, RiseFallPassed, RiseFallRun, RiseFallPromise, RiseFallInWindow}
+use Rattle.rise_fall.specs.Promise.{WidestPass}
+use Rattle.board.proofs.Keeping.{Show, holds_reference, shows_reference}
+
+pub in_larger : (f : Bool → ℕ) (b : Bool) → f b ≤ larger f
+in_larger f true = omega arith
+in_larger f false = omega arith
+
+pub in_smaller : (f : Bool → ℕ) (b : Bool) → smaller f ≤ f b
+in_smaller f true = omega arith
+in_smaller f false = omega arith
+
+same_refl : (x v : Bool) → x ≡ v → equal_bits x v ≡ true
+same_refl true true e = refl
+same_refl true false e = sym e
+same_refl false true e = e
+same_refl false false e = refl
+
+same_true : (x v : Bool) → equal_bits x v ≡ true → x ≡ v
+same_true true true e = refl
+same_true true false e = sym e
+same_true false true e = e
+same_true false false e = refl
+
+-- where a does not make v the other bit does as well
+no_part : (x y v : Bool) → (equal_bits x v && not (equal_bits y v)) ≡ false → x ≡ v → y ≡ v
+no_part x y v e is = elim (and_cases (equal_bits x v) (not (equal_bits y v)) e) [
+  | inl q ↦ absurd (both_ways (equal_bits x v) q (same_refl x v is))
+  | inr q ↦ same_true y v (not-false (equal_bits y v) q)
+]
+
+does_not_make : (f : Bool → Bool → Bool) (a v y : Bool) → makes f a v ≡ false → f a y ≡ v → f (not a) y ≡ v
+unfolding makes
+does_not_make f a v true e is = no_part (f a true) (f (not a) true) v (or_parts _ _ e).0 is
+does_not_make f a v false e is = no_part (f a false) (f (not a) false) v (or_parts _ _ e).1 is
+
+either_bit : (p a : Bool) → (p ≡ a) ⊎ (p ≡ not a)
+either_bit true true = inl refl
+either_bit true false = inr refl
+either_bit false true = inr refl
+either_bit false false = inl refl
+
+-- a bit that is seen right where it has an arc serves as well as the right one
+serves : (f : Bool → Bool → Bool) (a v p y : Bool) → (has_arc f a v ≡ true → p ≡ a) → f a y ≡ v → f p y ≡ v
+unfolding has_arc
+serves f a v p y seen is = elim (either_bit p a) [
+  | inl q ↦ rw q is
+  | inr q ↦ elim (cases_Bool (makes f a v)) [
+    | inl e ↦ rw (seen (or_left (makes f a v) (is_constant f) e)) is
+    | inr e ↦ rw q (does_not_make f a v y e is)
+  ]
+]
+
+-- the last change was to the bit that there was just before now
+last_is : (x : ℕ → Bool) (b : Bool) → LastTo x b → x 1 ≡ b
+last_is x b l = l.2 1 (omega arith) l.1
+
+-- the signal's own moments
+pub ago_is : (past x : Wave) (t d : ℕ) → d ≤ t → ago past x t d ≡ x (t - d)
+unfolding ago
+ago_is past x t d h = cond-false _ _ _ (le-ltb t d h)
+
+-- what is seen of an input that is stable of a is a
+pub seen_by : (past x : Wave) (a : Bool) (T : Stable) (b : Bounds) (t : ℕ) (p : Bool) →
+    ((u : ℕ) → T.from a ≤ u → u < T.until a → x u ≡ a) → Sees b (ago past x t) p →
+    from_by b T a ≤ t → t < until_by b T a → p ≡ a
+unfolding from_by delay_late until_by
+seen_by past x a T b t p shown sees start stop =
+    let v = sees.direction in
+    let d = sees.delay in
+    let l = sees.no_less in
+    let h = sees.no_more in
+    let m = in_larger b.greatest v in
+    let n = in_smaller b.least v in
+    elim (cases_lt t (T.from a + longest b)) [
+      | inr q ↦ sees.is ∙ ago_is past x t d (omega arith) ∙ shown (t - d) (omega arith) (omega arith)
+      | inl q ↦ elim (cases_Bool (leb (T.from a + longest b) (T.until a))) [
+        | inr e ↦ absurd (omega (
+          arith,
+          cond-false (leb (T.from a + longest b) (T.until a)) (min (longest b) (max 1 (b.greatest a))) (longest b) e,
+        ))
+        | inl e ↦
+            let long = leb-true (T.from a + longest b) (T.until a) e in
+            let short = cond-true (leb (T.from a + longest b) (T.until a)) (min (longest b) (max 1 (b.greatest a)))
+            (longest b) e in
+            let before : ago past x t 1 ≡ a = ago_is past x t 1 (omega arith)
+            ∙ shown (t - 1) (omega arith) (omega arith) in
+            elim sees.changed [
+              | inl s ↦
+                  let g : d ≤ b.greatest a = subst (λ z. d ≤ b.greatest z)
+                  (sym (last_is (ago past x t) v s) ∙ before) h in
+                  sees.is ∙ ago_is past x t d (omega arith) ∙ shown (t - d) (omega arith) (omega arith)
+              | inr s ↦ elim (cases_lt 0 d) [
+                | inl some ↦ sees.is ∙ s d (omega arith) ∙ before
+                | inr none ↦ sees.is ∙ ago_is past x t d (omega arith) ∙ shown (t - d) (omega arith) (omega arith)
+              ]
+            ]
+      ]
+    ]
+
+-- one gate: the output is what the table makes of the inputs' bits a and b
+gate_right : (g : Gate) (d : GateBounds) (X Y : Stable) (px x py y : Wave) (a b : Bool) (t : ℕ) (p q : Bool) →
+    ((u : ℕ) → X.from a ≤ u → u < X.until a → x u ≡ a) → ((u : ℕ) → Y.from b ≤ u → u < Y.until b → y u ≡ b) →
+    Sees d.one (ago px x t) p → Sees d.two (ago py y t) q →
+    (gate_stable d g X Y).from (output g.table a b) ≤ t → t < (gate_stable d g X Y).until (output g.table a b) →
+    output g.table p q ≡ output g.table a b
+unfolding gate_stable
+gate_right g d X Y px x py y a b t p q shown_x shown_y sees_x sees_y start stop =
+    let f = output g.table in
+    let v = f a b in
+    let top = longest_still d X Y in
+    let bot = soonest d X Y in
+    let one : has_arc f a v ≡ true → p ≡ a = λ r.
+    let l = in_larger (λ z. cond (has_arc f z v) (from_by d.one X z) bot) a in
+    let m = in_smaller (λ z. cond (has_arc f z v) (until_by d.one X z) top) a in
+    seen_by px x a X d.one t p shown_x sees_x
+    (omega (arith, cond-true (has_arc f a v) (from_by d.one X a) bot r))
+    (omega (arith, cond-true (has_arc f a v) (until_by d.one X a) top r)) in
+    let two : has_arc (swapped f) b v ≡ true → q ≡ b = λ r.
+    let l = in_larger (λ z. cond (has_arc (swapped f) z v) (from_by d.two Y z) bot) b in
+    let m = in_smaller (λ z. cond (has_arc (swapped f) z v) (until_by d.two Y z) top) b in
+    seen_by py y b Y d.two t q shown_y sees_y
+    (omega (arith, cond-true (has_arc (swapped f) b v) (from_by d.two Y b) bot r))
+    (omega (arith, cond-true (has_arc (swapped f) b v) (until_by d.two Y b) top r)) in
+    serves (swapped f) b v q p two (serves f a v p b one refl)
+
+-- the two equations
+module _ (c : Circuit) (d : ℕ → GateBounds) (sound : Sound c) (s : ℕ → Stable) where
+  pub stable_source : (i : ℕ) → i < c.inputs → stable c d s i ≡ s i
+  unfolding stable
+  stable_source i h = all_in (λ n. gate_stable (d (n - c.inputs))) c sound s i h
+
+  pub stable_gate : (k : ℕ) → k < length c.gates →
+      stable c d s (c.inputs + k) ≡ gate_stable (d k) (gate c k) (stable c d s (gate c k).one)
+      (stable c d s (gate c k).two)
+  unfolding stable
+  stable_gate k h = let n : c.inputs + k - c.inputs ≡ k = omega arith in
+      rw n at (all_at (λ n. gate_stable (d (n - c.inputs))) c sound s k h)
+
+pub rise_fall_window : RiseFallWindow
+rise_fall_window c d w b s sound moves shown k t h a z = all_along k h t a z
+  where
+    all_along : (k : ℕ) → k < signals c → (t : ℕ) → (stable c d s k).from (ideal c b k) ≤ t →
+        t < (stable c d s k).until (ideal c b k) → w k t ≡ ideal c b k
+    all_along = each_signal c sound
+        (λ k. (t : ℕ) → (stable c d s k).from (ideal c b k) ≤ t → t < (stable c d s k).until (ideal c b k) →
+        w k t ≡ ideal c b k)
+        (λ i h t a z.
+        let is = ideal_in c sound b i h in
+        rw is (shown i t h (rw (stable_source c d sound s i h, is) at a) (rw (stable_source c d sound s i h, is) at z)))
+        (λ k h p q t a z.
+        let is = ideal_at c sound b k h in
+        let g = gate c k in
+        let f = moves.1 k t h in
+        f.is
+        ∙ gate_right g (d k) (stable c d s g.one) (stable c d s g.two) (moves.0 g.one) (w g.one) (moves.0 g.two)
+        (w g.two) (ideal c b g.one) (ideal c b g.two) t f.bit_one f.bit_two p q f.sees_one f.sees_two
+        (rw (stable_gate c d sound s k h, is) at a) (rw (stable_gate c d sound s k h, is) at z)
+        ∙ sym is)
+
+-- through one input no worse than with the widest bounds
+from_less : (b : Bounds) (T : Stable) (a : Bool) (l m : ℕ) → ((v : Bool) → b.greatest v ≤ m) → T.from a ≤ l →
+    from_by b T a ≤ l + m
+unfolding from_by delay_late
+from_less b T a l m most ls = cond_both (leb (T.from a + longest b) (T.until a))
+    (min (longest b) (max 1 (b.greatest a))) (longest b) (λ z. T.from a + z ≤ l + m)
+    (λ _. omega (arith, most true, most false)) (λ _. omega (arith, most true, most false))
+
+until_more : (b : Bounds) (T : Stable) (a : Bool) (l m : ℕ) → ((v : Bool) → m ≤ b.least v) → l ≤ T.until a →
+    l + m ≤ until_by b T a
+unfolding until_by
+until_more b T a l m most ls = omega (arith, most true, most false)
+
+cond_less : (b : Bool) (x y m : ℕ) → x ≤ m → y ≤ m → cond b x y ≤ m
+cond_less true x y m h k = h
+cond_less false x y m h k = k
+
+cond_more : (b : Bool) (x y m : ℕ) → m ≤ x → m ≤ y → m ≤ cond b x y
+cond_more true x y m h k = h
+cond_more false x y m h k = k
+
+gate_better : (g : Gate) (d : GateBounds) (X Y : Stable) (v : Bool) (l m p q : ℕ) → BoundsInGate d g →
+    ((b : Bool) → (X.from b ≤ l) × (p ≤ X.until b)) → ((b : Bool) → (Y.from b ≤ m) × (q ≤ Y.until b)) →
+    ((gate_stable d g X Y).from v ≤ max (l + g.greatest_one) (m + g.greatest_two))
+    × (min (p + g.least_one) (q + g.least_two) ≤ (gate_stable d g X Y).until v)
+unfolding gate_stable soonest longest_still
+gate_better g d X Y v l m p q within xs ys =
+    let lx : (a : Bool) → from_by d.one X a ≤ l + g.greatest_one = λ a. from_less d.one X a l g.greatest_one
+    (λ b. (within.one_within b).1) (xs a).0 in
+    let ly : (a : Bool) → from_by d.two Y a ≤ m + g.greatest_two = λ a. from_less d.two Y a m g.greatest_two
+    (λ b. (within.two_within b).1) (ys a).0 in
+    let ex : (a : Bool) → p + g.least_one ≤ until_by d.one X a = λ a. until_more d.one X a p g.least_one
+    (λ b. (within.one_within b).0) (xs a).1 in
+    let ey : (a : Bool) → q + g.least_two ≤ until_by d.two Y a = λ a. until_more d.two Y a q g.least_two
+    (λ b. (within.two_within b).0) (ys a).1 in
+    let f = output g.table in
+    let top = longest_still d X Y in
+    let bot = soonest d X Y in
+    let wide = max (l + g.greatest_one) (m + g.greatest_two) in
+    let low = min (p + g.least_one) (q + g.least_two) in
+    let under : bot ≤ wide = omega (arith, lx true) in
+    let over : low ≤ top = omega (arith, ex true) in
+    let cx = λ (a : Bool). cond_less (has_arc f a v) (from_by d.one X a) bot wide (omega (arith, lx a)) under in
+    let cy = λ (a : Bool). cond_less (has_arc (swapped f) a v) (from_by d.two Y a) bot wide
+    (omega (arith, ly a)) under in
+    let dx = λ (a : Bool). cond_more (has_arc f a v) (until_by d.one X a) top low (omega (arith, ex a)) over in
+    let dy = λ (a : Bool). cond_more (has_arc (swapped f) a v) (until_by d.two Y a) top low
+    (omega (arith, ey a)) over in
+    (omega (arith, cx true, cx false, cy true, cy false), omega (arith, dx true, dx false, dy true, dy false))
+
+pub no_worse_than_widest : NoWorseThanWidest
+no_worse_than_widest c d sound within L E s sources = each_signal c sound
+    (λ k. (b : Bool) → ((stable c d s k).from b ≤ latest c L k) × (earliest c E k ≤ (stable c d s k).until b))
+    (λ i h b. rw (stable_source c d sound s i h, arrival_in Late c sound L i h, arrival_in Early c sound E i h)
+    (sources i h b))
+    (λ k h p q b. rw (stable_gate c d sound s k h, arrival_at Late c sound L k h, arrival_at Early c sound E k h)
+    (gate_better (gate c k) (d k) _ _ b _ _ _ _ (within k h) p q))
+
+-- what is seen is what was within the widest bounds ago
+pub moves_within : MovesWithin
+moves_within c d w within moves k t h a z =
+    let f = moves.1 k t h in
+    let i = within k h in
+    record {
+      delay_one = f.sees_one.delay;
+      delay_two = f.sees_two.delay;
+      one_least = omega (arith, f.sees_one.no_less, (i.one_within f.sees_one.direction).0);
+      one_greatest = omega (arith, f.sees_one.no_more, (i.one_within f.sees_one.direction).1);
+      two_least = omega (arith, f.sees_two.no_less, (i.two_within f.sees_two.direction).0);
+      two_greatest = omega (arith, f.sees_two.no_more, (i.two_within f.sees_two.direction).1);
+      is = f.is ∙ ap₂ (output (gate c k).table)
+          (f.sees_one.is ∙ ago_is _ _ t f.sees_one.delay
+          (omega (arith, f.sees_one.no_more, (i.one_within f.sees_one.direction).1)))
+          (f.sees_two.is ∙ ago_is _ _ t f.sees_two.delay
+          (omega (arith, f.sees_two.no_more, (i.two_within f.sees_two.direction).1)));
+    }
+
+-- THE PROMISE over these windows sources that show the bits b in their windows of cycle n make every signal show its
+-- ideal bit while it is stable at that bit
+signal_shows : (m : Board) (d : ℕ → GateBounds) (w : ℕ → Wave) → Sound m.circuit → RiseFallMoves m.circuit d w →
+    (n : ℕ) (b : ℕ → Bool) → Show m w n b → (k t : ℕ) → k < signals m.circuit →
+    (stable_in m d n k).from (ideal m.circuit b k) ≤ t → t < (stable_in m d n k).until (ideal m.circuit b k) →
+    w k t ≡ ideal m.circuit b k
+signal_shows m d w sound moves n b show =
+    rise_fall_window m.circuit d w b (λ i. record {
+      from =
+          λ v. since m n i;
+      until = λ v. still_until m n i;
+    }) sound moves show
+
+module _ (m : Board) (d : ℕ → GateBounds) (x : Trace) (passed : RiseFallPassed m d) (run : RiseFallRun m d x) where
+  right : (n r t : ℕ) → r < m.registers → m.takes_at r n ≡ true → Show m x.waves n (reference m x.start x.outside n) →
+      x.clock (suc n) r ≤ t + m.setup → t ≤ x.clock (suc n) r + m.hold →
+      x.waves (m.takes r) t ≡ ideal m.circuit (reference m x.start x.outside n) (m.takes r)
+  right n r t h e show a z =
+      let at_clock = run.sources.clocks (suc n) r h in
+      let v = ideal m.circuit (reference m x.start x.outside n) (m.takes r) in
+      signal_shows m d x.waves passed.formed.sound run.gates n (reference m x.start x.outside n) show
+      (m.takes r) t (passed.formed.taken r h)
+      (omega (arith, passed.setup_kept n r h e v)) (omega (arith, passed.hold_kept n r h e v))
+
+pub rise_fall_promise : RiseFallPromise
+rise_fall_promise m d passed x run = holds_reference m x run.sources (right m d x passed run)
+
+pub rise_fall_in_window : RiseFallInWindow
+rise_fall_in_window m d passed x run n =
+    signal_shows m d x.waves passed.formed.sound run.gates n (reference m x.start x.outside n)
+    (shows_reference m x run.sources (right m d x passed run) n)
+
+pub widest_pass : WidestPass
+widest_pass m d within passed = record {
+  formed = passed.formed;
+  setup_kept =
+      λ n r h t b. omega (arith, passed.setup_kept n r h t, (better n (m.takes r) (passed.formed.taken r h) b).0);
+  hold_kept =
+      λ n r h t b. omega (arith, passed.hold_kept n r h t, (better n (m.takes r) (passed.formed.taken r h) b).1);
+}
+  where
+    better : (n k : ℕ) → k < signals m.circuit → (b : Bool) →
+        ((stable_in m d n k).from b ≤ latest m.circuit (since m n) k)
+        × (earliest m.circuit (still_until m n) k ≤ (stable_in m d n k).until b)
+    better n k h b = no_worse_than_widest m.circuit d passed.formed.sound within (since m n) (still_until m n)
+        (λ i. record { from = λ v. since m n i; until = λ v. still_until m n i })
+        (λ i q v. (omega arith, omega arith)) k h b

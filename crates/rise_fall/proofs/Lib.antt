@@ -1,0 +1,5 @@
+pub mod Keeping
+pub mod Times
+pub mod Comparing
+pub mod Going
+pub mod Readings

@@ -1,0 +1,5 @@
+use Rattle.rise_fall.proofs.Readings as laws
+use Rattle.rise_fall.proofs.either_reading.Goals as goal
+
+pub returns : goal.returns
+returns c = laws.either_reading

@@ -1,0 +1,5 @@
+use Rattle.rise_fall.proofs.Going as laws
+use Rattle.rise_fall.proofs.length_matters.Goals as goal
+
+pub returns : goal.returns
+returns c = laws.length_matters

@@ -1,0 +1,5 @@
+use Rattle.rise_fall.proofs.Going as laws
+use Rattle.rise_fall.proofs.zero_is_one.Goals as goal
+
+pub returns : goal.returns
+returns c = laws.zero_is_one

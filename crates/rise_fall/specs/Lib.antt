@@ -1,0 +1,4 @@
+pub mod RiseFall
+pub mod Promise
+pub mod Paths
+pub mod More
