@@ -1,25 +1,27 @@
 -- Times with directions over sources and bounds within others.
-use Rattle.std.proofs.Common.{◌≡◌, ℕ, zero, suc, ◌+◌, ◌-◌, ◌*◌, ◌<◌, ◌≤◌, Bool, true, false, cond, min, max, leb}
-use Rattle.std.proofs.Common.{length, sym, refl, ap, ◌∙◌, inl, inr, arith}
+use Rattle.std.proofs.Common.{◌≡◌, ℕ, suc, ◌+◌, ◌-◌, ◌<◌, ◌≤◌, Bool, true, false, cond, min, max, leb, length, sym}
+use Rattle.std.proofs.Common.{refl, ◌∙◌, inl, inr, arith, zero, ◌*◌, ap}
 use Rattle.std.proofs.Math.Nat.{mul-add}
-use Rattle.std.proofs.lemmas.Bool.{cases_lt, cases_Bool, le-leb, lt-leb, cond-true, cond-false}
+use Rattle.std.proofs.lemmas.Bool.{cases_lt, cases_Bool, cond-true, cond-false, le-leb, lt-leb}
+use Rattle.circuit.proofs.Signals.{each_signal}
+use Rattle.circuit.specs.Circuit.{Circuit, gate, signals, Sound}
 use Rattle.circuit.specs.Gate.{output}
 use Rattle.circuit.specs.declared.gate.Gate.{Gate}
-use Rattle.circuit.specs.Circuit.{Circuit, gate, signals, Sound}
-use Rattle.circuit.proofs.Signals.{each_signal}
-use Rattle.board.specs.Board.{Board, Formed, since, still_until, launch_cycle, until_cycle}
-use Rattle.board.specs.Promise.{with_schedule}
-use Rattle.rise_fall.specs.RiseFall.{Bounds, GateBounds, shortest, longest, Stable, delay_late, from_by, until_by}
-use Rattle.rise_fall.specs.RiseFall.{has_arc, swapped, larger, soonest, longest_still, gate_stable, stable}
-use Rattle.rise_fall.specs.Promise.{stable_in}
-use Rattle.rise_fall.specs.Paths.{BoundsWithin, GateBoundsWithin, RiseFallNarrower}
-use Rattle.rise_fall.specs.More.{RiseFallKeptIn, RiseFallTwoCycles, RiseFallFewerTakes}
 use Rattle.board.proofs.Comparing.{times_more, since_less, until_more, since_in, until_in, narrower_since}
 use Rattle.board.proofs.Comparing.{narrower_until}
 use Rattle.board.proofs.Cycles.{repeats_at, launch_on, launch_later, until_on, takes_later, since_first, still_first}
+use Rattle.board.proofs.Going.{sources}
+use Rattle.board.specs.Board.{Board, since, still_until, Formed, launch_cycle, until_cycle}
+use Rattle.board.specs.Promise.{with_schedule}
+use Rattle.rise_fall.specs.Cycles.{RiseFallKeptIn, RiseFallTwoCycles, RiseFallFewerTakes}
+use Rattle.rise_fall.specs.Gate.{Bounds, GateBounds}
 use Rattle.rise_fall.specs.Paths.{side}
+use Rattle.rise_fall.specs.Promise.{sources_in, stable_in}
+use Rattle.rise_fall.specs.Times.{shortest, longest, Stable, delay_late, from_by, until_by, equal_bits, has_arc}
+use Rattle.rise_fall.specs.Times.{swapped, larger, soonest, longest_still, merged, gate_stable, stable}
+use Rattle.rise_fall.specs.Within.{BoundsWithin, GateBoundsWithin, RiseFallNarrower}
+use Rattle.rise_fall.proofs.Keeping.{soonest_at, longest_still_at, stable_source, stable_gate}
 use Rattle.rise_fall.proofs.Times.{late_at, late_below, late_some}
-use Rattle.rise_fall.proofs.Keeping.{stable_source, stable_gate}
 
 -- S is stable no later than T and for no less, where S is moved by a and T by b at the beginning, by x and y at the
 -- end, which is not moved less
@@ -75,29 +77,29 @@ module _ (a b x y : ℕ) (order : b + x ≤ y + a) where
   gate_inside : (g h : Gate) → g.table ≡ h.table → (d e : GateBounds) (S T X Y : Stable) → GateBoundsWithin d e →
       Inside a b x y S X → Inside a b x y T Y →
       Inside a b x y (gate_stable d g S T) (gate_stable e h X Y)
-  unfolding gate_stable soonest longest_still
+  unfolding merged soonest longest_still
   gate_inside g h equal_bits d e S T X Y within sx ty =
       let lx = λ (v : Bool). from_inside d.one e.one S X within.one_within sx v in
       let ly = λ (v : Bool). from_inside d.two e.two T Y within.two_within ty v in
       let ex = λ (v : Bool). until_inside d.one e.one S X within.one_within sx v in
       let ey = λ (v : Bool). until_inside d.two e.two T Y within.two_within ty v in
-      let low : a + soonest d S T ≤ b + soonest e X Y = omega (arith, lx true, lx false, ly true, ly false) in
-      let high : y + longest_still e X Y ≤ x + longest_still d S T = omega
+      let low : a + soonest_at d S T ≤ b + soonest_at e X Y = omega (arith, lx true, lx false, ly true, ly false) in
+      let high : y + longest_still_at e X Y ≤ x + longest_still_at d S T = omega
       (arith, ex true, ex false, ey true, ey false) in
       rw equal_bits (record {
         begins = λ v.
             let f = output h.table in
-            let fx = λ (z : Bool). cond_inside a b (has_arc f z v) (from_by d.one S z) (soonest d S T)
-            (from_by e.one X z) (soonest e X Y) (lx z) low in
-            let fy = λ (z : Bool). cond_inside a b (has_arc (swapped f) z v) (from_by d.two T z) (soonest d S T)
-            (from_by e.two Y z) (soonest e X Y) (ly z) low in
+            let fx = λ (z : Bool). cond_inside a b (has_arc f z v) (from_by d.one S z) (soonest_at d S T)
+            (from_by e.one X z) (soonest_at e X Y) (lx z) low in
+            let fy = λ (z : Bool). cond_inside a b (has_arc (swapped f) z v) (from_by d.two T z) (soonest_at d S T)
+            (from_by e.two Y z) (soonest_at e X Y) (ly z) low in
             omega (arith, fx true, fx false, fy true, fy false);
         ends = λ v.
             let f = output h.table in
-            let fx = λ (z : Bool). cond_inside y x (has_arc f z v) (until_by e.one X z) (longest_still e X Y)
-            (until_by d.one S z) (longest_still d S T) (ex z) high in
-            let fy = λ (z : Bool). cond_inside y x (has_arc (swapped f) z v) (until_by e.two Y z) (longest_still e X Y)
-            (until_by d.two T z) (longest_still d S T) (ey z) high in
+            let fx = λ (z : Bool). cond_inside y x (has_arc f z v) (until_by e.one X z) (longest_still_at e X Y)
+            (until_by d.one S z) (longest_still_at d S T) (ex z) high in
+            let fy = λ (z : Bool). cond_inside y x (has_arc (swapped f) z v) (until_by e.two Y z) (longest_still_at e X Y)
+            (until_by d.two T z) (longest_still_at d S T) (ey z) high in
             omega (arith, fx true, fx false, fy true, fy false);
       })
 
@@ -157,15 +159,15 @@ rise_fall_as_in m d a b formed takers begins ending kept = record {
     inside : (k : ℕ) → k < signals m.circuit →
         Inside (a * m.period) (b * m.period) (a * m.period) (b * m.period) (stable_in m d b k) (stable_in m d a k)
     inside = stable_moved m.circuit formed.sound d (a * m.period) (b * m.period) (a * m.period) (b * m.period)
-        (omega arith) (λ i. record { from = λ v. since m b i; until = λ v. still_until m b i })
-        (λ i. record { from = λ v. since m a i; until = λ v. still_until m a i })
+        (omega arith) (sources_in m b)
+        (sources_in m a)
         (λ i h. record { begins = λ v. since_in m a b begins i; ends = λ v. until_in m a b ending i })
 
 -- how long a gate is stable depends only on how long its inputs are
 untils : (g : Gate) (d : GateBounds) (S T S' T' : Stable) (z a : ℕ) → ((v : Bool) → z + T.until v ≤ a + S.until v) →
     ((v : Bool) → z + T'.until v ≤ a + S'.until v) →
     (v : Bool) → z + (gate_stable d g T T').until v ≤ a + (gate_stable d g S S').until v
-unfolding gate_stable longest_still until_by
+unfolding merged longest_still until_by
 untils g d S T S' T' z a p q v =
     let f = output g.table in
     let pt = p true in
@@ -287,9 +289,9 @@ rise_fall_two_cycles m d mark marked formed third fourth = record {
     from_zero : (k : ℕ) → k < signals m.circuit →
         Between (4 * m.period) m.period 0 (stable_in m d 0 k) (stable_in m d 3 k) (stable_in m d 4 k)
     from_zero = stable_between (4 * m.period) m.period 0 m.circuit formed.sound d
-        (λ i. record { from = λ v. since m 0 i; until = λ v. still_until m 0 i })
-        (λ i. record { from = λ v. since m 3 i; until = λ v. still_until m 3 i })
-        (λ i. record { from = λ v. since m 4 i; until = λ v. still_until m 4 i })
+        (sources_in m 0)
+        (sources_in m 3)
+        (sources_in m 4)
         (λ i h. record {
           begins = λ v. omega (arith, since_first m mark marked i);
           first = λ v. omega (arith, still_first m mark marked 3 i);
@@ -349,7 +351,7 @@ rise_fall_fewer_takes m d more sub passed =
     inside : (n k : ℕ) → k < signals m.circuit →
         Inside 0 0 0 0 (stable_in m d n k) (stable_in (with_schedule m more) d n k)
     inside n = stable_moved m.circuit passed.formed.sound d 0 0 0 0 (omega arith)
-        (λ i. record { from = λ v. since m n i; until = λ v. still_until m n i })
+        (sources_in m n)
         (λ i. record {
           from = λ v. since (with_schedule m more) n i;
           until = λ v. still_until (with_schedule m more) n i;
@@ -397,8 +399,8 @@ rise_fall_narrower new old d e v passed =
         w.circuit_within.inputs_same w.circuit_within.gates_same
         (λ k h. let g = w.circuit_within.gates_within k h in
         (g.one_same, g.two_same, v.tables_same k h)) d e v.bounds_within
-        (λ i. record { from = λ b. since new n i; until = λ b. still_until new n i })
-        (λ i. record { from = λ b. since old n i; until = λ b. still_until old n i })
+        (sources_in new n)
+        (sources_in old n)
         (λ i h. record {
           begins = λ b. omega (arith, narrower_since new old w n i h);
           ends = λ b. omega (arith, narrower_until new old w n i h);

@@ -1,35 +1,30 @@
 -- Windows with delays by direction.
-use Rattle.std.proofs.Common.{◌≡◌, ℕ, suc, ◌+◌, ◌-◌, ◌<◌, ◌≤◌, ◌⊎◌, Bool, true, false, not, ◌&&◌, cond, min, max}
-use Rattle.std.proofs.Common.{leb, length, sym, refl, ap₂, subst, ◌∙◌, inl, inr, arith}
-use Rattle.std.proofs.lemmas.Bool.{cases_lt, cases_Bool, leb-true, le-ltb, cond-true, cond-false, cond_both, and_cases}
-use Rattle.std.proofs.lemmas.Bool.{or_parts, or_left, not-false, both_ways}
+use Rattle.std.proofs.Common.{◌≡◌, ℕ, suc, ◌+◌, ◌-◌, ◌<◌, ◌≤◌, Bool, true, false, not, ◌&&◌, cond, min, max, leb}
+use Rattle.std.proofs.Common.{length, sym, refl, ap₂, ◌∙◌, inl, inr, arith}
+use Rattle.std.proofs.lemmas.Bool.{cases_Bool, cond-true, cond_both, and_cases, or_parts, or_left, not-false}
+use Rattle.std.proofs.lemmas.Bool.{both_ways}
+use Rattle.circuit.proofs.Signals.{all_in, all_at, each_signal}
+use Rattle.circuit.specs.Circuit.{Circuit, gate, signals, Sound}
 use Rattle.circuit.specs.Gate.{output}
 use Rattle.circuit.specs.declared.gate.Gate.{Gate}
-use Rattle.circuit.specs.Circuit.{Circuit, gate, signals, Sound}
-use Rattle.circuit.proofs.Signals.{all_in, all_at, each_signal}
-use Rattle.drawing.specs.Drawing.{ideal}
 use Rattle.drawing.proofs.IdealLaws.{ideal_in, ideal_at}
-use Rattle.arrival.specs.declared.edge.Edge.TheVariants.{Late, Early}
+use Rattle.drawing.specs.Drawing.{ideal}
+use Rattle.arrival.proofs.ArrivalLaws.{arrival_in, arrival_at}
 use Rattle.arrival.specs.Arrival.{latest, earliest}
 use Rattle.arrival.specs.Window.{Wave}
-use Rattle.arrival.proofs.ArrivalLaws.{arrival_in, arrival_at}
-use Rattle.board.specs.Run.{Trace}
-use Rattle.board.specs.Board.{Board, reference, since, still_until}
-use Rattle.rise_fall.specs.RiseFall.{Bounds, GateBounds, longest, ago, LastTo, Sees, Stable, delay_late, from_by}
-use Rattle.rise_fall.specs.RiseFall.{until_by, equal_bits, makes, is_constant, has_arc, swapped, smaller, larger}
-use Rattle.rise_fall.specs.RiseFall.{soonest, longest_still, gate_stable, stable, RiseFallWindow, RiseFallMoves}
-use Rattle.rise_fall.specs.RiseFall.{BoundsInGate, NoWorseThanWidest, MovesWithin}
-use Rattle.rise_fall.specs.Promise.{stable_in, RiseFallPassed, RiseFallRun, RiseFallPromise, RiseFallInWindow}
-use Rattle.rise_fall.specs.Promise.{WidestPass}
+use Rattle.arrival.specs.declared.edge.Edge.TheVariants.{Late, Early}
+use Rattle.board.proofs.Going.{sources}
 use Rattle.board.proofs.Keeping.{Show, holds_reference, shows_reference}
-
-pub in_larger : (f : Bool → ℕ) (b : Bool) → f b ≤ larger f
-in_larger f true = omega arith
-in_larger f false = omega arith
-
-pub in_smaller : (f : Bool → ℕ) (b : Bool) → smaller f ≤ f b
-in_smaller f true = omega arith
-in_smaller f false = omega arith
+use Rattle.board.specs.Board.{Board, reference, since, still_until}
+use Rattle.board.specs.Run.{Trace}
+use Rattle.rise_fall.specs.Gate.{Bounds, GateBounds, ago, Sees, RiseFallMoves}
+use Rattle.rise_fall.specs.Promise.{sources_in, stable_in, RiseFallPassed, RiseFallRun, RiseFallPromise}
+use Rattle.rise_fall.specs.Promise.{RiseFallInWindow}
+use Rattle.rise_fall.specs.Times.{longest, Stable, delay_late, from_by, until_by, delayed, equal_bits, makes}
+use Rattle.rise_fall.specs.Times.{is_constant, has_arc, swapped, soonest, longest_still, merged, gate_stable, stable}
+use Rattle.rise_fall.specs.Times.{RiseFallWindow}
+use Rattle.rise_fall.specs.Widest.{BoundsInGate, MovesWithin, NoWorseThanWidest, WidestPass}
+use Rattle.rise_fall.proofs.Seeing.{in_larger, in_smaller, either_bit, ago_is, seen_by}
 
 same_refl : (x v : Bool) → x ≡ v → equal_bits x v ≡ true
 same_refl true true e = refl
@@ -55,12 +50,6 @@ unfolding makes
 does_not_make f a v true e is = no_part (f a true) (f (not a) true) v (or_parts _ _ e).0 is
 does_not_make f a v false e is = no_part (f a false) (f (not a) false) v (or_parts _ _ e).1 is
 
-either_bit : (p a : Bool) → (p ≡ a) ⊎ (p ≡ not a)
-either_bit true true = inl refl
-either_bit true false = inr refl
-either_bit false true = inr refl
-either_bit false false = inl refl
-
 -- a bit that is seen right where it has an arc serves as well as the right one
 serves : (f : Bool → Bool → Bool) (a v p y : Bool) → (has_arc f a v ≡ true → p ≡ a) → f a y ≡ v → f p y ≡ v
 unfolding has_arc
@@ -72,52 +61,12 @@ serves f a v p y seen is = elim (either_bit p a) [
   ]
 ]
 
--- the last change was to the bit that there was just before now
-last_is : (x : ℕ → Bool) (b : Bool) → LastTo x b → x 1 ≡ b
-last_is x b l = l.2 1 (omega arith) l.1
+-- what stands where there is no arc, of a gate whose inputs are seen through their delays
+abbrev pub soonest_at : GateBounds → Stable → Stable → ℕ
+soonest_at d x y = soonest (delayed d.one x) (delayed d.two y)
 
--- the signal's own moments
-pub ago_is : (past x : Wave) (t d : ℕ) → d ≤ t → ago past x t d ≡ x (t - d)
-unfolding ago
-ago_is past x t d h = cond-false _ _ _ (le-ltb t d h)
-
--- what is seen of an input that is stable of a is a
-pub seen_by : (past x : Wave) (a : Bool) (T : Stable) (b : Bounds) (t : ℕ) (p : Bool) →
-    ((u : ℕ) → T.from a ≤ u → u < T.until a → x u ≡ a) → Sees b (ago past x t) p →
-    from_by b T a ≤ t → t < until_by b T a → p ≡ a
-unfolding from_by delay_late until_by
-seen_by past x a T b t p shown sees start stop =
-    let v = sees.direction in
-    let d = sees.delay in
-    let l = sees.no_less in
-    let h = sees.no_more in
-    let m = in_larger b.greatest v in
-    let n = in_smaller b.least v in
-    elim (cases_lt t (T.from a + longest b)) [
-      | inr q ↦ sees.is ∙ ago_is past x t d (omega arith) ∙ shown (t - d) (omega arith) (omega arith)
-      | inl q ↦ elim (cases_Bool (leb (T.from a + longest b) (T.until a))) [
-        | inr e ↦ absurd (omega (
-          arith,
-          cond-false (leb (T.from a + longest b) (T.until a)) (min (longest b) (max 1 (b.greatest a))) (longest b) e,
-        ))
-        | inl e ↦
-            let long = leb-true (T.from a + longest b) (T.until a) e in
-            let short = cond-true (leb (T.from a + longest b) (T.until a)) (min (longest b) (max 1 (b.greatest a)))
-            (longest b) e in
-            let before : ago past x t 1 ≡ a = ago_is past x t 1 (omega arith)
-            ∙ shown (t - 1) (omega arith) (omega arith) in
-            elim sees.changed [
-              | inl s ↦
-                  let g : d ≤ b.greatest a = subst (λ z. d ≤ b.greatest z)
-                  (sym (last_is (ago past x t) v s) ∙ before) h in
-                  sees.is ∙ ago_is past x t d (omega arith) ∙ shown (t - d) (omega arith) (omega arith)
-              | inr s ↦ elim (cases_lt 0 d) [
-                | inl some ↦ sees.is ∙ s d (omega arith) ∙ before
-                | inr none ↦ sees.is ∙ ago_is past x t d (omega arith) ∙ shown (t - d) (omega arith) (omega arith)
-              ]
-            ]
-      ]
-    ]
+abbrev pub longest_still_at : GateBounds → Stable → Stable → ℕ
+longest_still_at d x y = longest_still (delayed d.one x) (delayed d.two y)
 
 -- one gate: the output is what the table makes of the inputs' bits a and b
 gate_right : (g : Gate) (d : GateBounds) (X Y : Stable) (px x py y : Wave) (a b : Bool) (t : ℕ) (p q : Bool) →
@@ -125,12 +74,12 @@ gate_right : (g : Gate) (d : GateBounds) (X Y : Stable) (px x py y : Wave) (a b 
     Sees d.one (ago px x t) p → Sees d.two (ago py y t) q →
     (gate_stable d g X Y).from (output g.table a b) ≤ t → t < (gate_stable d g X Y).until (output g.table a b) →
     output g.table p q ≡ output g.table a b
-unfolding gate_stable
+unfolding merged
 gate_right g d X Y px x py y a b t p q shown_x shown_y sees_x sees_y start stop =
     let f = output g.table in
     let v = f a b in
-    let top = longest_still d X Y in
-    let bot = soonest d X Y in
+    let top = longest_still_at d X Y in
+    let bot = soonest_at d X Y in
     let one : has_arc f a v ≡ true → p ≡ a = λ r.
     let l = in_larger (λ z. cond (has_arc f z v) (from_by d.one X z) bot) a in
     let m = in_smaller (λ z. cond (has_arc f z v) (until_by d.one X z) top) a in
@@ -204,7 +153,7 @@ gate_better : (g : Gate) (d : GateBounds) (X Y : Stable) (v : Bool) (l m p q : �
     ((b : Bool) → (X.from b ≤ l) × (p ≤ X.until b)) → ((b : Bool) → (Y.from b ≤ m) × (q ≤ Y.until b)) →
     ((gate_stable d g X Y).from v ≤ max (l + g.greatest_one) (m + g.greatest_two))
     × (min (p + g.least_one) (q + g.least_two) ≤ (gate_stable d g X Y).until v)
-unfolding gate_stable soonest longest_still
+unfolding merged soonest longest_still
 gate_better g d X Y v l m p q within xs ys =
     let lx : (a : Bool) → from_by d.one X a ≤ l + g.greatest_one = λ a. from_less d.one X a l g.greatest_one
     (λ b. (within.one_within b).1) (xs a).0 in
@@ -215,8 +164,8 @@ gate_better g d X Y v l m p q within xs ys =
     let ey : (a : Bool) → q + g.least_two ≤ until_by d.two Y a = λ a. until_more d.two Y a q g.least_two
     (λ b. (within.two_within b).0) (ys a).1 in
     let f = output g.table in
-    let top = longest_still d X Y in
-    let bot = soonest d X Y in
+    let top = longest_still_at d X Y in
+    let bot = soonest_at d X Y in
     let wide = max (l + g.greatest_one) (m + g.greatest_two) in
     let low = min (p + g.least_one) (q + g.least_two) in
     let under : bot ≤ wide = omega (arith, lx true) in
@@ -301,5 +250,5 @@ widest_pass m d within passed = record {
         ((stable_in m d n k).from b ≤ latest m.circuit (since m n) k)
         × (earliest m.circuit (still_until m n) k ≤ (stable_in m d n k).until b)
     better n k h b = no_worse_than_widest m.circuit d passed.formed.sound within (since m n) (still_until m n)
-        (λ i. record { from = λ v. since m n i; until = λ v. still_until m n i })
+        (sources_in m n)
         (λ i q v. (omega arith, omega arith)) k h b

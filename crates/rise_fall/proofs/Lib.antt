@@ -1,5 +1,6 @@
+pub mod Seeing
 pub mod Keeping
 pub mod Times
 pub mod Comparing
 pub mod Going
-pub mod Readings
+pub mod Failing

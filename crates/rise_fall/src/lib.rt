@@ -1,11 +1,13 @@
 //! Gates whose delays differ for an input that rises and one that falls: what passing promises.
 #![tactic(auto)]
 
-ghost use Rattle.rise_fall.specs.RiseFall.{RiseFallWindow, NoWorseThanWidest, MovesWithin};
-ghost use Rattle.rise_fall.specs.Promise.{RiseFallPromise, RiseFallInWindow, WidestPass};
-ghost use Rattle.rise_fall.specs.Paths.{RiseFallLatestIs, RiseFallEarliestIs, RiseFallNarrower};
-ghost use Rattle.rise_fall.specs.More.{RiseFallTwoCycles, RiseFallFewerTakes, RiseFallCanGo};
-ghost use Rattle.rise_fall.specs.More.{LengthMatters, ZeroIsOne, EitherReading};
+ghost use Rattle.rise_fall.specs.Times.{RiseFallWindow, EitherReading};
+ghost use Rattle.rise_fall.specs.Widest.{NoWorseThanWidest, MovesWithin, WidestPass};
+ghost use Rattle.rise_fall.specs.Promise.{RiseFallPromise, RiseFallInWindow, RiseFallCanGo};
+ghost use Rattle.rise_fall.specs.Paths.{RiseFallLatestIs, RiseFallEarliestIs};
+ghost use Rattle.rise_fall.specs.Within.{RiseFallNarrower};
+ghost use Rattle.rise_fall.specs.Cycles.{RiseFallTwoCycles, RiseFallFewerTakes};
+ghost use Rattle.rise_fall.specs.Weaker.{LengthMatters, ZeroIsOne};
 
 /// With delays by direction every signal shows what it is when nothing takes time, in its window.
 pub fn rise_fall_window() -> u8
