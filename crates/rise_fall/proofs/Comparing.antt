@@ -8,18 +8,20 @@ use Rattle.circuit.specs.Circuit.{Circuit, gate, signals, Sound}
 use Rattle.circuit.specs.Gate.{output}
 use Rattle.circuit.specs.declared.gate.Gate.{Gate}
 use Rattle.board.proofs.Comparing.{times_more, since_less, until_more, since_in, until_in, narrower_since}
-use Rattle.board.proofs.Comparing.{narrower_until}
+use Rattle.board.proofs.Comparing.{narrower_until, within_self}
 use Rattle.board.proofs.Cycles.{repeats_at, launch_on, launch_later, until_on, takes_later, since_first, still_first}
 use Rattle.board.proofs.Going.{sources}
+use Rattle.board.proofs.Keeping.{launch_anew, until_next}
 use Rattle.board.specs.Board.{Board, since, still_until, Formed, launch_cycle, until_cycle}
 use Rattle.board.specs.Promise.{with_schedule}
-use Rattle.rise_fall.specs.Cycles.{RiseFallKeptIn, RiseFallTwoCycles, RiseFallFewerTakes}
+use Rattle.rise_fall.specs.Cycles.{RiseFallKeptIn, RiseFallTwoCycles, RiseFallOneCycle, RiseFallFewerTakes}
 use Rattle.rise_fall.specs.Gate.{Bounds, GateBounds}
 use Rattle.rise_fall.specs.Paths.{side}
-use Rattle.rise_fall.specs.Promise.{sources_in, stable_in}
+use Rattle.rise_fall.specs.Promise.{sources_in, stable_in, SetupKept, HoldKept}
 use Rattle.rise_fall.specs.Times.{shortest, longest, Stable, delay_late, from_by, until_by, equal_bits, has_arc}
 use Rattle.rise_fall.specs.Times.{swapped, larger, soonest, longest_still, merged, gate_stable, stable}
-use Rattle.rise_fall.specs.Within.{BoundsWithin, GateBoundsWithin, RiseFallNarrower}
+use Rattle.rise_fall.specs.Within.{BoundsWithin, GateBoundsWithin, RiseFallWithin, SetupNarrower, HoldNarrower}
+use Rattle.rise_fall.specs.Within.{RiseFallNarrower, with_period, SetupSlower, RiseFallSlower}
 use Rattle.rise_fall.proofs.Keeping.{soonest_at, longest_still_at, stable_source, stable_gate}
 use Rattle.rise_fall.proofs.Times.{late_at, late_below, late_some}
 
@@ -330,6 +332,22 @@ rise_fall_two_cycles m d mark marked formed third fourth = record {
     each (suc (suc (suc (suc zero)))) = fourth
     each (suc (suc (suc (suc (suc n))))) = on (suc (suc (suc n))) (omega arith) (each (suc (suc (suc n))))
 
+-- cycles in which all registers take are alike
+pub rise_fall_one_cycle : RiseFallOneCycle
+rise_fall_one_cycle m d always formed kept = record {
+  formed = formed;
+  setup_kept = λ n r h e. (each n).setup_kept r h e;
+  hold_kept = λ n r h e. (each n).hold_kept r h e;
+}
+  where
+    begins : (r n : ℕ) → launch_cycle m r n ≡ n
+    begins r zero = unfold launch_cycle in refl
+    begins r (suc n) = launch_anew m r n (always r n)
+
+    each : (n : ℕ) → RiseFallKeptIn m d n
+    each n = rise_fall_as_in m d 0 n formed (λ r h e. always r 0) (λ r h. omega (arith, begins r n, begins r 0))
+        (λ r h. omega (arith, until_next m r n (always r n), until_next m r 0 (always r 0))) kept
+
 pub rise_fall_fewer_takes : RiseFallFewerTakes
 rise_fall_fewer_takes m d more sub passed =
     let f = passed.formed in
@@ -361,47 +379,103 @@ rise_fall_fewer_takes m d more sub passed =
           ends = λ v. omega (arith, until_more m more sub n i);
         })
 
+-- narrower bounds and a longer period: a cycle's windows begin no later, counted from its beginning, and end no sooner, counted
+-- from its end
+module _ (new old : Board) (d e : ℕ → GateBounds) (v : RiseFallWithin new old d e) (formed : Formed old) where
+  longer : (n : ℕ) → n * new.period ≡ n * old.period + n * (new.period - old.period)
+  longer n =
+      let f : new.period ≡ old.period + (new.period - old.period) = omega (arith, v.board_within.period_within) in
+      ap (λ (x : ℕ). n * x) f ∙ mul-add n old.period (new.period - old.period)
+
+  inside : (n k : ℕ) → k < signals old.circuit →
+      Inside 0 (n * (new.period - old.period)) 0 (suc n * (new.period - old.period)) (stable_in new d n k)
+      (stable_in old e n k)
+  inside n = let w = v.board_within in
+      stable_inside 0 (n * (new.period - old.period)) 0 (suc n * (new.period - old.period))
+      (omega (arith, times_more n (suc n) (new.period - old.period) (omega arith)))
+      new.circuit old.circuit w.formed.sound formed.sound
+      w.circuit_within.inputs_same w.circuit_within.gates_same
+      (λ k h. let g = w.circuit_within.gates_within k h in
+      (g.one_same, g.two_same, v.tables_same k h)) d e v.bounds_within
+      (sources_in new n)
+      (sources_in old n)
+      (λ i h. record {
+        begins = λ b. omega (arith, narrower_since new old w n i h);
+        ends = λ b. omega (arith, narrower_until new old w n i h);
+      })
+
+  setup_within : (n r : ℕ) → r < old.registers → SetupKept old (stable_in old e n) n r →
+      SetupKept new (stable_in new d n) n r
+  setup_within n r h kept b =
+      let w = v.board_within in
+      let old_kept = kept b in
+      let i = (inside n (old.takes r) (formed.taken r h)).begins b in
+      rw (w.takes_same r h) (omega (
+        arith,
+        w.clock_within r h,
+        w.setup_within,
+        longer (suc n),
+        times_more n (suc n) (new.period - old.period) (omega arith),
+      ))
+
+  hold_within : (n r : ℕ) → r < old.registers → HoldKept old (stable_in old e n) n r →
+      HoldKept new (stable_in new d n) n r
+  hold_within n r h kept b =
+      let w = v.board_within in
+      let old_kept = kept b in
+      let i = (inside n (old.takes r) (formed.taken r h)).ends b in
+      rw (w.takes_same r h) (omega (arith, w.clock_within r h, w.hold_within, longer (suc n)))
+
+pub setup_narrower : SetupNarrower
+setup_narrower new old d e v formed n r h kept = setup_within new old d e v formed n r h kept
+
+pub hold_narrower : HoldNarrower
+hold_narrower new old d e v formed n r h kept = hold_within new old d e v formed n r h kept
+
 pub rise_fall_narrower : RiseFallNarrower
 rise_fall_narrower new old d e v passed =
     let w = v.board_within in
+    let in_old = λ (r : ℕ) (h : r < new.registers). let q : r < old.registers = omega (arith, w.registers_same) in q in
     record {
       formed = w.formed;
-      setup_kept = λ n r h t b.
-          let q : r < old.registers = omega (arith, w.registers_same) in
-          let old_kept = passed.setup_kept n r q (sym (w.schedule_same r n q) ∙ t) b in
-          let i = (inside n (old.takes r) (passed.formed.taken r q)).begins b in
-          rw (w.takes_same r q) (omega (
-            arith,
-            w.clock_within r q,
-            w.setup_within,
-            longer (suc n),
-            times_more n (suc n) (new.period - old.period) (omega arith),
-          ));
-      hold_kept = λ n r h t b.
-          let q : r < old.registers = omega (arith, w.registers_same) in
-          let old_kept = passed.hold_kept n r q (sym (w.schedule_same r n q) ∙ t) b in
-          let i = (inside n (old.takes r) (passed.formed.taken r q)).ends b in
-          rw (w.takes_same r q) (omega (arith, w.clock_within r q, w.hold_within, longer (suc n)));
+      setup_kept = λ n r h t. setup_narrower new old d e v passed.formed n r (in_old r h)
+          (passed.setup_kept n r (in_old r h) (sym (w.schedule_same r n (in_old r h)) ∙ t));
+      hold_kept = λ n r h t. hold_narrower new old d e v passed.formed n r (in_old r h)
+          (passed.hold_kept n r (in_old r h) (sym (w.schedule_same r n (in_old r h)) ∙ t));
     }
-  where
-    longer : (n : ℕ) → n * new.period ≡ n * old.period + n * (new.period - old.period)
-    longer n =
-        let f : new.period ≡ old.period + (new.period - old.period) = omega (arith, v.board_within.period_within) in
-        ap (λ (x : ℕ). n * x) f ∙ mul-add n old.period (new.period - old.period)
 
-    inside : (n k : ℕ) → k < signals old.circuit →
-        Inside 0 (n * (new.period - old.period)) 0 (suc n * (new.period - old.period)) (stable_in new d n k)
-        (stable_in old e n k)
-    inside n = let w = v.board_within in
-        stable_inside 0 (n * (new.period - old.period)) 0 (suc n * (new.period - old.period))
-        (omega (arith, times_more n (suc n) (new.period - old.period) (omega arith)))
-        new.circuit old.circuit w.formed.sound passed.formed.sound
-        w.circuit_within.inputs_same w.circuit_within.gates_same
-        (λ k h. let g = w.circuit_within.gates_within k h in
-        (g.one_same, g.two_same, v.tables_same k h)) d e v.bounds_within
-        (sources_in new n)
-        (sources_in old n)
-        (λ i h. record {
-          begins = λ b. omega (arith, narrower_since new old w n i h);
-          ends = λ b. omega (arith, narrower_until new old w n i h);
-        })
+-- a longer period alone
+slower_within : (m : Board) (d : ℕ → GateBounds) (p : ℕ) → Formed m → m.period ≤ p →
+    RiseFallWithin (with_period m p) m d d
+slower_within m d p f longer = record {
+  board_within = record {
+    registers_same = refl;
+    circuit_within = within_self m.circuit;
+    formed = record {
+      sources = f.sources;
+      sound = f.sound;
+      taken = f.taken;
+      clocked = f.clocked;
+      inputs_ordered = f.inputs_ordered;
+      output_ordered = f.output_ordered;
+    };
+    takes_same = λ r h. refl;
+    schedule_same = λ r n h. refl;
+    clock_within = λ r h. (omega arith, omega arith);
+    inputs_within = λ i h q. (omega arith, omega arith);
+    output_within = (omega arith, omega arith);
+    setup_within = omega arith;
+    hold_within = omega arith;
+    period_within = longer;
+  };
+  tables_same = λ k h. refl;
+  bounds_within = λ k h. all_within_self (d k);
+}
+
+pub setup_slower : SetupSlower
+setup_slower m d p formed longer n r h kept =
+    setup_narrower (with_period m p) m d d (slower_within m d p formed longer) formed n r h kept
+
+pub rise_fall_slower : RiseFallSlower
+rise_fall_slower m d p longer passed =
+    rise_fall_narrower (with_period m p) m d d (slower_within m d p passed.formed longer) passed

@@ -5,9 +5,9 @@ ghost use Rattle.rise_fall.specs.Times.{RiseFallWindow, EitherReading};
 ghost use Rattle.rise_fall.specs.Widest.{NoWorseThanWidest, MovesWithin, WidestPass};
 ghost use Rattle.rise_fall.specs.Promise.{RiseFallPromise, RiseFallInWindow, RiseFallCanGo};
 ghost use Rattle.rise_fall.specs.Paths.{RiseFallLatestIs, RiseFallEarliestIs};
-ghost use Rattle.rise_fall.specs.Within.{RiseFallNarrower};
-ghost use Rattle.rise_fall.specs.Cycles.{RiseFallTwoCycles, RiseFallFewerTakes};
-ghost use Rattle.rise_fall.specs.Weaker.{LengthMatters, ZeroIsOne};
+ghost use Rattle.rise_fall.specs.Within.{SetupNarrower, HoldNarrower, RiseFallNarrower, SetupSlower, RiseFallSlower};
+ghost use Rattle.rise_fall.specs.Cycles.{RiseFallTwoCycles, RiseFallOneCycle, RiseFallFewerTakes};
+ghost use Rattle.rise_fall.specs.Weaker.{OwnBoundsFail, LengthMatters, ZeroIsOne};
 
 /// With delays by direction every signal shows what it is when nothing takes time, in its window.
 pub fn rise_fall_window() -> u8
@@ -110,6 +110,48 @@ pub fn rise_fall_can_go() -> u8
 /// The rule for four bounds is right whether or not a change at a moment itself is the last one before it.
 pub fn either_reading() -> u8
     ensures { EitherReading }
+{
+    0
+}
+
+/// Each setup sum that is right stays so with narrower bounds and a longer period.
+pub fn setup_narrower() -> u8
+    ensures { SetupNarrower }
+{
+    0
+}
+
+/// Each hold sum that is right stays so with narrower bounds and a longer period.
+pub fn hold_narrower() -> u8
+    ensures { HoldNarrower }
+{
+    0
+}
+
+/// A setup sum that is right with a period is so with every longer one.
+pub fn setup_slower() -> u8
+    ensures { SetupSlower }
+{
+    0
+}
+
+/// What is passed is so with every longer period.
+pub fn rise_fall_slower() -> u8
+    ensures { RiseFallSlower }
+{
+    0
+}
+
+/// Of a board whose registers take in every cycle only one cycle has to be looked at.
+pub fn rise_fall_one_cycle() -> u8
+    ensures { RiseFallOneCycle }
+{
+    0
+}
+
+/// Each transition's own bounds alone let a board pass that goes wrong.
+pub fn own_bounds_fail() -> u8
+    ensures { OwnBoundsFail }
 {
     0
 }
