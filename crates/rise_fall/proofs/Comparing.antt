@@ -100,7 +100,8 @@ module _ (a b x y : ℕ) (order : b + x ≤ y + a) where
             let f = output h.table in
             let fx = λ (z : Bool). cond_inside y x (has_arc f z v) (until_by e.one X z) (longest_still_at e X Y)
             (until_by d.one S z) (longest_still_at d S T) (ex z) high in
-            let fy = λ (z : Bool). cond_inside y x (has_arc (swapped f) z v) (until_by e.two Y z) (longest_still_at e X Y)
+            let fy = λ (z : Bool).
+            cond_inside y x (has_arc (swapped f) z v) (until_by e.two Y z) (longest_still_at e X Y)
             (until_by d.two T z) (longest_still_at d S T) (ey z) high in
             omega (arith, fx true, fx false, fy true, fy false);
       })
@@ -379,8 +380,8 @@ rise_fall_fewer_takes m d more sub passed =
           ends = λ v. omega (arith, until_more m more sub n i);
         })
 
--- narrower bounds and a longer period: a cycle's windows begin no later, counted from its beginning, and end no sooner, counted
--- from its end
+-- narrower bounds and a longer period: a cycle's windows begin no later, counted from its beginning, and end no
+-- sooner, counted from its end
 module _ (new old : Board) (d e : ℕ → GateBounds) (v : RiseFallWithin new old d e) (formed : Formed old) where
   longer : (n : ℕ) → n * new.period ≡ n * old.period + n * (new.period - old.period)
   longer n =

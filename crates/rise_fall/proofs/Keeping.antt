@@ -24,6 +24,7 @@ use Rattle.rise_fall.specs.Times.{longest, Stable, delay_late, from_by, until_by
 use Rattle.rise_fall.specs.Times.{is_constant, has_arc, swapped, soonest, longest_still, merged, gate_stable, stable}
 use Rattle.rise_fall.specs.Times.{RiseFallWindow}
 use Rattle.rise_fall.specs.Widest.{BoundsInGate, MovesWithin, NoWorseThanWidest, WidestPass}
+use Rattle.rise_fall.proofs.Merging.{merged_between}
 use Rattle.rise_fall.proofs.Seeing.{in_larger, in_smaller, either_bit, ago_is, seen_by}
 
 same_refl : (x v : Bool) → x ≡ v → equal_bits x v ≡ true
@@ -129,54 +130,34 @@ rise_fall_window c d w b s sound moves shown k t h a z = all_along k h t a z
         ∙ sym is)
 
 -- through one input no worse than with the widest bounds
-from_less : (b : Bounds) (T : Stable) (a : Bool) (l m : ℕ) → ((v : Bool) → b.greatest v ≤ m) → T.from a ≤ l →
+pub seen_from : (b : Bounds) (T : Stable) (a : Bool) (l m : ℕ) → ((v : Bool) → b.greatest v ≤ m) → T.from a ≤ l →
     from_by b T a ≤ l + m
 unfolding from_by delay_late
-from_less b T a l m most ls = cond_both (leb (T.from a + longest b) (T.until a))
+seen_from b T a l m most ls = cond_both (leb (T.from a + longest b) (T.until a))
     (min (longest b) (max 1 (b.greatest a))) (longest b) (λ z. T.from a + z ≤ l + m)
     (λ _. omega (arith, most true, most false)) (λ _. omega (arith, most true, most false))
 
-until_more : (b : Bounds) (T : Stable) (a : Bool) (l m : ℕ) → ((v : Bool) → m ≤ b.least v) → l ≤ T.until a →
+pub seen_until : (b : Bounds) (T : Stable) (a : Bool) (l m : ℕ) → ((v : Bool) → m ≤ b.least v) → l ≤ T.until a →
     l + m ≤ until_by b T a
 unfolding until_by
-until_more b T a l m most ls = omega (arith, most true, most false)
-
-cond_less : (b : Bool) (x y m : ℕ) → x ≤ m → y ≤ m → cond b x y ≤ m
-cond_less true x y m h k = h
-cond_less false x y m h k = k
-
-cond_more : (b : Bool) (x y m : ℕ) → m ≤ x → m ≤ y → m ≤ cond b x y
-cond_more true x y m h k = h
-cond_more false x y m h k = k
+seen_until b T a l m most ls = omega (arith, most true, most false)
 
 gate_better : (g : Gate) (d : GateBounds) (X Y : Stable) (v : Bool) (l m p q : ℕ) → BoundsInGate d g →
     ((b : Bool) → (X.from b ≤ l) × (p ≤ X.until b)) → ((b : Bool) → (Y.from b ≤ m) × (q ≤ Y.until b)) →
     ((gate_stable d g X Y).from v ≤ max (l + g.greatest_one) (m + g.greatest_two))
     × (min (p + g.least_one) (q + g.least_two) ≤ (gate_stable d g X Y).until v)
-unfolding merged soonest longest_still
 gate_better g d X Y v l m p q within xs ys =
-    let lx : (a : Bool) → from_by d.one X a ≤ l + g.greatest_one = λ a. from_less d.one X a l g.greatest_one
-    (λ b. (within.one_within b).1) (xs a).0 in
-    let ly : (a : Bool) → from_by d.two Y a ≤ m + g.greatest_two = λ a. from_less d.two Y a m g.greatest_two
-    (λ b. (within.two_within b).1) (ys a).0 in
-    let ex : (a : Bool) → p + g.least_one ≤ until_by d.one X a = λ a. until_more d.one X a p g.least_one
-    (λ b. (within.one_within b).0) (xs a).1 in
-    let ey : (a : Bool) → q + g.least_two ≤ until_by d.two Y a = λ a. until_more d.two Y a q g.least_two
-    (λ b. (within.two_within b).0) (ys a).1 in
-    let f = output g.table in
-    let top = longest_still_at d X Y in
-    let bot = soonest_at d X Y in
     let wide = max (l + g.greatest_one) (m + g.greatest_two) in
     let low = min (p + g.least_one) (q + g.least_two) in
-    let under : bot ≤ wide = omega (arith, lx true) in
-    let over : low ≤ top = omega (arith, ex true) in
-    let cx = λ (a : Bool). cond_less (has_arc f a v) (from_by d.one X a) bot wide (omega (arith, lx a)) under in
-    let cy = λ (a : Bool). cond_less (has_arc (swapped f) a v) (from_by d.two Y a) bot wide
-    (omega (arith, ly a)) under in
-    let dx = λ (a : Bool). cond_more (has_arc f a v) (until_by d.one X a) top low (omega (arith, ex a)) over in
-    let dy = λ (a : Bool). cond_more (has_arc (swapped f) a v) (until_by d.two Y a) top low
-    (omega (arith, ey a)) over in
-    (omega (arith, cx true, cx false, cy true, cy false), omega (arith, dx true, dx false, dy true, dy false))
+    merged_between g (delayed d.one X) (delayed d.two Y) wide low
+    (λ a. let i = within.one_within in (
+      omega (arith, seen_from d.one X a l g.greatest_one (λ b. (i b).1) (xs a).0),
+      omega (arith, seen_until d.one X a p g.least_one (λ b. (i b).0) (xs a).1),
+    ))
+    (λ a. let i = within.two_within in (
+      omega (arith, seen_from d.two Y a m g.greatest_two (λ b. (i b).1) (ys a).0),
+      omega (arith, seen_until d.two Y a q g.least_two (λ b. (i b).0) (ys a).1),
+    )) v
 
 pub no_worse_than_widest : NoWorseThanWidest
 no_worse_than_widest c d sound within L E s sources = each_signal c sound

@@ -155,7 +155,8 @@ module _ (g : Gate) (d : GateBounds) (X Y : Stable) (v : Bool) where
   ]
 
   late_one : (second a : Bool) →
-      (gate_stable d g X Y).from v ≡ cond (has_arc (side second g) a v) (late_at second a) (soonest_at d X Y) → LatestArc
+      (gate_stable d g X Y).from v ≡ cond (has_arc (side second g) a v) (late_at second a) (soonest_at d X Y) →
+      LatestArc
   late_one second a is = elim (cases_Bool (has_arc (side second g) a v)) [
     | inl r ↦ (
       second,

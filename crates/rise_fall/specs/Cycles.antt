@@ -21,7 +21,8 @@ RiseFallTwoCycles =
 -- and of one whose registers take in every cycle only one
 abbrev pub RiseFallOneCycle : Type 0
 RiseFallOneCycle =
-    (m : Board) (d : ℕ → GateBounds) → ((r n : ℕ) → m.takes_at r n ≡ true) → Formed m → RiseFallKeptIn m d 0 → RiseFallPassed m d
+    (m : Board) (d : ℕ → GateBounds) → ((r n : ℕ) → m.takes_at r n ≡ true) → Formed m → RiseFallKeptIn m d 0 →
+    RiseFallPassed m d
 
 -- what is passed is so when registers take in fewer cycles
 abbrev pub RiseFallFewerTakes : Type 0

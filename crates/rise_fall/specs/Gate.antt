@@ -5,8 +5,8 @@ use Rattle.circuit.specs.declared.gate.Gate.{Gate}
 use Rattle.circuit.specs.Circuit.{Circuit, gate}
 use Rattle.arrival.specs.Window.{Wave}
 
--- The four bounds of an input's delay, in moments: the least and the greatest when it has risen (at `true`), and when it has
--- fallen (at `false`)
+-- The four bounds of an input's delay, in moments: the least and the greatest when it has risen (at `true`), and when
+-- it has fallen (at `false`)
 pub record Bounds : Type 0 where
   pub least : Bool → ℕ
   pub greatest : Bool → ℕ
@@ -16,13 +16,13 @@ pub record GateBounds : Type 0 where
   pub one : Bounds
   pub two : Bounds
 
--- A signal's bits counted back from moment t: at 0 that of the moment itself, at d that of d moments before it. `past` are
--- those from before moment 0, counted back from there
+-- A signal's bits counted back from moment t: at 0 that of the moment itself, at d that of d moments before it.
+-- `past` are those from before moment 0, counted back from there
 unfoldable pub ago : (past x : Wave) (t : ℕ) → ℕ → Bool
 ago past x t d = cond (nat_lt t d) (past (d - suc t)) (x (t - d))
 
--- The last transition before now was to the bit b: for some time up to just before now the signal has been b, and before
--- that it was not. What it is now says nothing: a change at the moment itself is not before it
+-- The last transition before now was to the bit b: for some time up to just before now the signal has been b, and
+-- before that it was not. What it is now says nothing: a change at the moment itself is not before it
 abbrev pub LastTo : (ℕ → Bool) → Bool → Type 0
 LastTo x b = (d : ℕ) × (1 ≤ d) × ((i : ℕ) → 1 ≤ i → i ≤ d → x i ≡ b) × (x (suc d) ≡ not b)
 
@@ -30,8 +30,8 @@ LastTo x b = (d : ℕ) × (1 ≤ d) × ((i : ℕ) → 1 ≤ i → i ≤ d → x 
 abbrev pub NeverChanged : (ℕ → Bool) → Type 0
 NeverChanged x = (i : ℕ) → 1 ≤ i → x i ≡ x 1
 
--- What a gate may see of an input: its bit some time ago, by a delay within the bounds of its last transition before now, or
--- within those of either where it never changed
+-- What a gate may see of an input: its bit some time ago, by a delay within the bounds of its last transition before
+-- now, or within those of either where it never changed
 pub record Sees (b : Bounds) (x : ℕ → Bool) (p : Bool) : Type 0 where
   pub delay : ℕ
   pub direction : Bool
@@ -48,9 +48,9 @@ pub record RiseFallFollows (g : Gate) (d : GateBounds) (one two : ℕ → Bool) 
   pub sees_two : Sees d.two two bit_two
   pub is : out ≡ output g.table bit_one bit_two
 
--- The waves that a circuit can have whose gates have the bounds d, in place of the two of each input in their records: at
--- every moment every gate follows its inputs, with delays of that moment. Before moment 0 each signal was anything, which is
--- fixed once
+-- The waves that a circuit can have whose gates have the bounds d, in place of the two of each input in their
+-- records: at every moment every gate follows its inputs, with delays of that moment. Before moment 0 each signal was
+-- anything, which is fixed once
 abbrev pub RiseFallMoves : Circuit → (ℕ → GateBounds) → (ℕ → Wave) → Type 0
 RiseFallMoves c d w =
     (past : ℕ → Wave)
@@ -58,8 +58,8 @@ RiseFallMoves c d w =
     RiseFallFollows (gate c k) (d k) (ago (past (gate c k).one) (w (gate c k).one) t)
     (ago (past (gate c k).two) (w (gate c k).two) t) (w (c.inputs + k) t))
 
--- What a gate may see of an input by the other reading, by which a change at the moment itself is the last one: the delay is
--- within the bounds of the last transition up to now
+-- What a gate may see of an input by the other reading, by which a change at the moment itself is the last one: the
+-- delay is within the bounds of the last transition up to now
 pub record SeesUpTo (b : Bounds) (x : ℕ → Bool) (p : Bool) : Type 0 where
   pub delay : ℕ
   pub direction : Bool
@@ -75,8 +75,8 @@ pub record RiseFallDelays (c : Circuit) (d : ℕ → GateBounds) (one two : (k t
   pub two_within : (k t : ℕ) (b : Bool) → k < length c.gates →
       ((d k).two.least b ≤ two k t b) × (two k t b ≤ (d k).two.greatest b)
 
--- Each gate follows its inputs by just these delays, those for the bit that its input had just before: this is the bit to
--- which the last transition before the moment was, if there was one
+-- Each gate follows its inputs by just these delays, those for the bit that its input had just before: this is the
+-- bit to which the last transition before the moment was, if there was one
 abbrev pub RiseFallMovesBy : Circuit → (one two : (k t : ℕ) → Bool → ℕ) → (ℕ → Wave) → Type 0
 RiseFallMovesBy c one two w =
     (k t : ℕ) → k < length c.gates →

@@ -44,7 +44,8 @@ fastest c d ((g, second, a) ∷ p) = shortest (bounds_at second (d g)) + fastest
 abbrev pub RiseFallLatestIs : Type 0
 RiseFallLatestIs =
     (c : Circuit) (d : ℕ → GateBounds) (s : ℕ → Stable) (k : ℕ) (v : Bool) → Sound c → k < signals c →
-    ((i : ℕ) (u : Bool) (p : RiseFallSteps) → Leads c i u p k v → (s i).from u + slowest c d s p ≤ (stable c d s k).from v)
+    ((i : ℕ) (u : Bool) (p : RiseFallSteps) → Leads c i u p k v →
+    (s i).from u + slowest c d s p ≤ (stable c d s k).from v)
     × ((i : ℕ) × (u : Bool) × (p : RiseFallSteps) × Leads c i u p k v
     × ((s i).from u + slowest c d s p ≡ (stable c d s k).from v))
 
@@ -52,6 +53,7 @@ RiseFallLatestIs =
 abbrev pub RiseFallEarliestIs : Type 0
 RiseFallEarliestIs =
     (c : Circuit) (d : ℕ → GateBounds) (s : ℕ → Stable) (k : ℕ) (v : Bool) → Sound c → k < signals c →
-    ((i : ℕ) (u : Bool) (p : RiseFallSteps) → Leads c i u p k v → (stable c d s k).until v ≤ (s i).until u + fastest c d p)
+    ((i : ℕ) (u : Bool) (p : RiseFallSteps) → Leads c i u p k v →
+    (stable c d s k).until v ≤ (s i).until u + fastest c d p)
     × ((i : ℕ) × (u : Bool) × (p : RiseFallSteps) × Leads c i u p k v
     × ((s i).until u + fastest c d p ≡ (stable c d s k).until v))

@@ -17,8 +17,8 @@ sources_in m n i = record { from = λ b. since m n i; until = λ b. still_until 
 abbrev pub stable_in : Board → (ℕ → GateBounds) → (n k : ℕ) → Stable
 stable_in m d n = stable m.circuit d (sources_in m n)
 
--- register r's signal of cycle n is there, whichever bit it is, the setup time before the earliest clock at the cycle's end,
--- where the signals are stable as `times` says
+-- register r's signal of cycle n is there, whichever bit it is, the setup time before the earliest clock at the
+-- cycle's end, where the signals are stable as `times` says
 abbrev pub SetupKept : Board → (times : ℕ → Stable) → (n r : ℕ) → Type 0
 SetupKept m times n r = (b : Bool) → (times (m.takes r)).from b + m.setup ≤ suc n * m.period + m.early r
 
@@ -26,8 +26,8 @@ SetupKept m times n r = (b : Bool) → (times (m.takes r)).from b + m.setup ≤ 
 abbrev pub HoldKept : Board → (times : ℕ → Stable) → (n r : ℕ) → Type 0
 HoldKept m times n r = (b : Bool) → suc n * m.period + (m.late r + m.hold) < (times (m.takes r)).until b
 
--- a board is well formed, and both sums are right at every register in every cycle at whose end it takes, where in each cycle
--- signals are stable as `times` says
+-- a board is well formed, and both sums are right at every register in every cycle at whose end it takes, where in
+-- each cycle signals are stable as `times` says
 pub record SumsKept (m : Board) (times : ℕ → ℕ → Stable) : Type 0 where
   pub formed : Formed m
   pub setup_kept : (n r : ℕ) → r < m.registers → m.takes_at r n ≡ true → SetupKept m (times n) n r
@@ -37,8 +37,8 @@ pub record SumsKept (m : Board) (times : ℕ → ℕ → Stable) : Type 0 where
 abbrev pub RiseFallPassed : Board → (ℕ → GateBounds) → Type 0
 RiseFallPassed m d = SumsKept m (stable_in m d)
 
--- a run: the sources behave as in every run of a board, and every gate follows its inputs with delays within the bounds of
--- their last transitions
+-- a run: the sources behave as in every run of a board, and every gate follows its inputs with delays within the
+-- bounds of their last transitions
 pub record RiseFallRun (m : Board) (d : ℕ → GateBounds) (x : Trace) : Type 0 where
   pub sources : SourcesBehave m x
   pub gates : RiseFallMoves m.circuit d x.waves
@@ -57,8 +57,8 @@ RiseFallInWindow =
     let b = ideal m.circuit (reference m x.start x.outside n) k in
     (stable_in m d n k).from b ≤ t → t < (stable_in m d n k).until b → x.waves k t ≡ b
 
--- a passed board can go, with any bits at the start and from outside, by any delays and any clocks in order within their
--- bounds: what is promised is not promised of nothing
+-- a passed board can go, with any bits at the start and from outside, by any delays and any clocks in order within
+-- their bounds: what is promised is not promised of nothing
 abbrev pub RiseFallCanGo : Type 0
 RiseFallCanGo =
     (m : Board) (d : ℕ → GateBounds) (start : ℕ → Bool) (outside : (n i : ℕ) → Bool) (clock : (n r : ℕ) → ℕ)

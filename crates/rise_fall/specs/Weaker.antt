@@ -6,32 +6,34 @@ use Rattle.arrival.specs.Window.{Wave}
 use Rattle.board.specs.Board.{Board, reference}
 use Rattle.board.specs.Run.{Trace}
 use Rattle.rise_fall.specs.Gate.{Bounds, GateBounds, RiseFallMoves}
-use Rattle.rise_fall.specs.Times.{Stable, shortest, merged}
+use Rattle.rise_fall.specs.Times.{Stable, merged}
 use Rattle.rise_fall.specs.Promise.{sources_in, SumsKept, RiseFallRun}
 
 -- a gate with the same bounds at both inputs
 abbrev pub both : Bounds → GateBounds
 both b = record { one = b; two = b }
 
--- When a gate sees an input, by each transition's own bounds alone. This looks right: an input that has risen shows at the
--- output once the greatest delay of a rising input has passed, and what ends this is a falling input, so not before the least
--- delay of one. It is not right: where the input rises late and falls early, the last transition before a moment may be the
--- fall already, whose delay may be greater and reach back to before the rise
-abbrev pub delayed_by_own : Bounds → Stable → Stable
-delayed_by_own b x = record { from = λ a. x.from a + b.greatest a; until = λ a. x.until a + b.least (not a) }
+-- When a gate sees an input, by each transition's own bounds alone. This looks right: an input that has risen shows
+-- at the output once the greatest delay of a rising input has passed, and what ends this is a falling input, so not
+-- before the least delay of one. It is not right: where the input rises late and falls early, the last transition
+-- before a moment may be the fall already, whose delay may be greater and reach back to before the rise
+abbrev pub delayed_by_own_bounds : Bounds → Stable → Stable
+delayed_by_own_bounds b x = record { from = λ a. x.from a + b.greatest a; until = λ a. x.until a + b.least (not a) }
 
 -- when every signal would be stable by this rule
-unfoldable pub stable_by_own : Circuit → (ℕ → GateBounds) → (ℕ → Stable) → (ℕ → Stable)
-stable_by_own c d s =
-    along (λ n g x y. merged g (delayed_by_own (d (n - c.inputs)).one x) (delayed_by_own (d (n - c.inputs)).two y)) c.inputs c.gates s
+unfoldable pub stable_by_own_bounds : Circuit → (ℕ → GateBounds) → (ℕ → Stable) → (ℕ → Stable)
+stable_by_own_bounds c d s =
+    along (λ n g x y.
+    let b = d (n - c.inputs) in
+    merged g (delayed_by_own_bounds b.one x) (delayed_by_own_bounds b.two y)) c.inputs c.gates s
 
 -- a board is passed by this rule
-abbrev pub PassedByOwn : Board → (ℕ → GateBounds) → Type 0
-PassedByOwn m d = SumsKept m (λ n. stable_by_own m.circuit d (sources_in m n))
+abbrev pub PassedByOwnBounds : Board → (ℕ → GateBounds) → Type 0
+PassedByOwnBounds m d = SumsKept m (λ n. stable_by_own_bounds m.circuit d (sources_in m n))
 
--- Two registers and three gates. Register 0 takes the inverse of its own bit, register 1 takes register 0's bit through two
--- buffers. The clock comes to register 0 at the beginning of a cycle and to register 1 after 3 moments, each time exactly,
--- and the period is 9
+-- Two registers and three gates. Register 0 takes the inverse of its own bit, register 1 takes register 0's bit
+-- through two buffers. The clock comes to register 0 at the beginning of a cycle and to register 1 after 3 moments,
+-- each time exactly, and the period is 9
 abbrev pub short_pulse : Board
 short_pulse = record {
   registers = 2;
@@ -69,31 +71,37 @@ GoesWrongAt m d r = (x : Trace) × RiseFallRun m d x × ((n : ℕ) × (x.holds n
 
 -- by each transition's own bounds alone the board is passed, and register 1 goes wrong
 abbrev pub OwnBoundsFail : Type 0
-OwnBoundsFail = PassedByOwn short_pulse pulse_bounds × GoesWrongAt short_pulse pulse_bounds 1
+OwnBoundsFail = PassedByOwnBounds short_pulse pulse_bounds × GoesWrongAt short_pulse pulse_bounds 1
 
 -- a buffer alone
 abbrev pub buffer : Circuit
 buffer = record {
   inputs = 1;
-  gates = record { one = 0; two = 0; table = 10; least_one = 2; greatest_one = 6; least_two = 2; greatest_two = 6 } ∷ [];
+  gates =
+      record { one = 0; two = 0; table = 10; least_one = 2; greatest_one = 6; least_two = 2; greatest_two = 6 } ∷ [];
 }
 
 abbrev pub slow_fall : GateBounds
 slow_fall = both (record { least = λ b. 2; greatest = λ b. cond b 2 6 })
 
--- How long the input is stable matters. Here it is 1 at moment 3 only, so stable from 3 until before 4. By the greatest delay
--- of a rising input alone the output would be 1 from 3 + 2 until before 4 + 2. At moment 5 it may be 0
+-- an input that is stable from moment 3 until before 4
+abbrev pub one_moment : Stable
+one_moment = record { from = λ b. 3; until = λ b. 4 }
+
+-- How long the input is stable matters, at one gate already. Here it is 1 at moment 3 only. By own bounds alone the
+-- output would be 1 at moment 5: it may be 0
 abbrev pub LengthMatters : Type 0
 LengthMatters =
     (w : ℕ → Wave) × RiseFallMoves buffer (λ k. slow_fall) w × ((t : ℕ) → 3 ≤ t → t < 4 → w 0 t ≡ true)
-    × (3 + slow_fall.one.greatest true ≤ 5) × (5 < 4 + shortest slow_fall.one)
+    × ((delayed_by_own_bounds slow_fall.one one_moment).from true ≤ 5)
+    × (5 < (delayed_by_own_bounds slow_fall.one one_moment).until true)
     × (ideal buffer (λ i. true) 1 ≡ true) × (w 1 5 ≡ false)
 
 abbrev pub zero_rise : GateBounds
 zero_rise = both (record { least = λ b. 0; greatest = λ b. cond b 0 5 })
 
--- A greatest delay of 0 counts as 1. Here the input rises at moment 3 for good. By a greatest delay of 0 the output would be 1
--- from 3 + 0. At moment 3 it may be 0, as the rise is not before that moment
+-- A greatest delay of 0 counts as 1. Here the input rises at moment 3 for good. By a greatest delay of 0 the output
+-- would be 1 from 3 + 0. At moment 3 it may be 0, as the rise is not before that moment
 abbrev pub ZeroIsOne : Type 0
 ZeroIsOne =
     (w : ℕ → Wave) × RiseFallMoves buffer (λ k. zero_rise) w × ((t : ℕ) → 3 ≤ t → w 0 t ≡ true)

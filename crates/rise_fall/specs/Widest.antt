@@ -26,10 +26,24 @@ MovesWithin = (c : Circuit) (d : ℕ → GateBounds) (w : ℕ → Wave) → Boun
 abbrev pub NoWorseThanWidest : Type 0
 NoWorseThanWidest =
     (c : Circuit) (d : ℕ → GateBounds) → Sound c → BoundsInCircuit d c →
-    (L E : ℕ → ℕ) (s : ℕ → Stable) → ((i : ℕ) → i < c.inputs → (b : Bool) → ((s i).from b ≤ L i) × (E i ≤ (s i).until b)) →
-    (k : ℕ) → k < signals c → (b : Bool) → ((stable c d s k).from b ≤ latest c L k) × (earliest c E k ≤ (stable c d s k).until b)
+    (L E : ℕ → ℕ) (s : ℕ → Stable) →
+    ((i : ℕ) → i < c.inputs → (b : Bool) → ((s i).from b ≤ L i) × (E i ≤ (s i).until b)) →
+    (k : ℕ) → k < signals c → (b : Bool) →
+    ((stable c d s k).from b ≤ latest c L k) × (earliest c E k ≤ (stable c d s k).until b)
 
--- What is passed with the two bounds is passed with the four, so the four never pass less. They may pass more, even where all
--- four are the two: times by transition go through a gate's table, and those of two bounds through each of its inputs
+-- What is passed with the two bounds is passed with the four, so the four never pass less
 abbrev pub WidestPass : Type 0
 WidestPass = (m : Board) (d : ℕ → GateBounds) → BoundsInCircuit d m.circuit → Passed m → RiseFallPassed m d
+
+-- the two bounds of each input, for both transitions
+abbrev pub equal_bounds : Gate → GateBounds
+equal_bounds g = record {
+  one = record { least = λ b. g.least_one; greatest = λ b. g.greatest_one };
+  two = record { least = λ b. g.least_two; greatest = λ b. g.greatest_two };
+}
+
+-- They may pass more, even where they are the two: times by transition go through a gate's table, so an input that
+-- the table ignores does not count. So a board whose gates have two bounds keeps the times of two bounds, and what it
+-- is said to be does not change where four bounds are known
+abbrev pub EqualBoundsPassMore : Type 0
+EqualBoundsPassMore = (m : Board) × RiseFallPassed m (λ k. equal_bounds (gate m.circuit k)) × ¬ Passed m

@@ -15,16 +15,16 @@ pub record GateBoundsWithin (new old : GateBounds) : Type 0 where
   pub one_within : BoundsWithin new.one old.one
   pub two_within : BoundsWithin new.two old.two
 
--- a new board with bounds d is an old one with bounds e, all bounds within the old ones and no shorter period; its gates have
--- the old tables, since times go through them
+-- a new board with bounds d is an old one with bounds e, all bounds within the old ones and no shorter period; its
+-- gates have the old tables, since times go through them
 pub record RiseFallWithin (new old : Board) (d e : ℕ → GateBounds) : Type 0 where
   pub board_within : Within new old
   pub tables_same : (k : ℕ) → k < length old.circuit.gates → (gate new.circuit k).table ≡ (gate old.circuit k).table
   pub bounds_within : (k : ℕ) → k < length old.circuit.gates → GateBoundsWithin (d k) (e k)
 
--- each setup sum that is right stays so with narrower bounds and a longer period, whatever the hold sums and the other
--- registers are. Latest times look at how long inputs are stable, so at their next change: with a longer period this comes
--- later, never sooner
+-- each setup sum that is right stays so with narrower bounds and a longer period, whatever the hold sums and the
+-- other registers are. Latest times look at how long inputs are stable, so at their next change: with a longer period
+-- this comes later, never sooner
 abbrev pub SetupNarrower : Type 0
 SetupNarrower =
     (new old : Board) (d e : ℕ → GateBounds) → RiseFallWithin new old d e → Formed old →
@@ -38,7 +38,8 @@ HoldNarrower =
 
 -- what is passed is so with narrower bounds and a longer period
 abbrev pub RiseFallNarrower : Type 0
-RiseFallNarrower = (new old : Board) (d e : ℕ → GateBounds) → RiseFallWithin new old d e → RiseFallPassed old e → RiseFallPassed new d
+RiseFallNarrower =
+    (new old : Board) (d e : ℕ → GateBounds) → RiseFallWithin new old d e → RiseFallPassed old e → RiseFallPassed new d
 
 -- a board with another period
 abbrev pub with_period : Board → ℕ → Board
@@ -52,4 +53,5 @@ SetupSlower =
 
 -- what is passed is so with every longer period
 abbrev pub RiseFallSlower : Type 0
-RiseFallSlower = (m : Board) (d : ℕ → GateBounds) (p : ℕ) → m.period ≤ p → RiseFallPassed m d → RiseFallPassed (with_period m p) d
+RiseFallSlower =
+    (m : Board) (d : ℕ → GateBounds) (p : ℕ) → m.period ≤ p → RiseFallPassed m d → RiseFallPassed (with_period m p) d

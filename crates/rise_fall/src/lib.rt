@@ -2,7 +2,7 @@
 #![tactic(auto)]
 
 ghost use Rattle.rise_fall.specs.Times.{RiseFallWindow, EitherReading};
-ghost use Rattle.rise_fall.specs.Widest.{NoWorseThanWidest, MovesWithin, WidestPass};
+ghost use Rattle.rise_fall.specs.Widest.{NoWorseThanWidest, MovesWithin, WidestPass, EqualBoundsPassMore};
 ghost use Rattle.rise_fall.specs.Promise.{RiseFallPromise, RiseFallInWindow, RiseFallCanGo};
 ghost use Rattle.rise_fall.specs.Paths.{RiseFallLatestIs, RiseFallEarliestIs};
 ghost use Rattle.rise_fall.specs.Within.{SetupNarrower, HoldNarrower, RiseFallNarrower, SetupSlower, RiseFallSlower};
@@ -152,6 +152,13 @@ pub fn rise_fall_one_cycle() -> u8
 /// Each transition's own bounds alone let a board pass that goes wrong.
 pub fn own_bounds_fail() -> u8
     ensures { OwnBoundsFail }
+{
+    0
+}
+
+/// Four equal bounds may pass a board that is not passed with the two, since times go through a gate's table.
+pub fn equal_bounds_pass_more() -> u8
+    ensures { EqualBoundsPassMore }
 {
     0
 }
