@@ -138,12 +138,12 @@ module _ (c : Circuit) (sound : Sound c) (d : ℕ → GateBounds) (a b x y : ℕ
   stable_moved = stable_inside a b x y order c c sound sound refl refl (λ k h. (refl, refl, refl)) d d
       (λ k h. all_within_self (d k)) s u sources
 
-pub rise_fall_as_in : (m : Board) (d : ℕ → GateBounds) (a b : ℕ) → Formed m →
+pub kept_as_in : (m : Board) (d : ℕ → GateBounds) (a b : ℕ) → Formed m →
     ((r : ℕ) → r < m.registers → m.takes_at r b ≡ true → m.takes_at r a ≡ true) →
     ((r : ℕ) → r < m.registers → a + launch_cycle m r b ≤ b + launch_cycle m r a) →
     ((r : ℕ) → r < m.registers → b + until_cycle m r a ≤ a + until_cycle m r b) → RiseFallKeptIn m d a →
     RiseFallKeptIn m d b
-rise_fall_as_in m d a b formed takers begins ending kept = record {
+kept_as_in m d a b formed takers begins ending kept = record {
   setup_kept = λ r h e v.
       let i = inside (m.takes r) (formed.taken r h) in
       let p = suc_times a m.period in
@@ -282,8 +282,8 @@ module _ (a x y : ℕ) where
                 late_below g d U U' v false b r,
               )
 
-pub rise_fall_two_cycles : RiseFallTwoCycles
-rise_fall_two_cycles m d mark marked formed third fourth = record {
+pub two_cycles : RiseFallTwoCycles
+two_cycles m d mark marked formed third fourth = record {
   formed = formed;
   setup_kept = λ n r h e b. (each n).setup_kept r h e b;
   hold_kept = λ n r h e b. (each n).hold_kept r h e b;
@@ -317,11 +317,11 @@ rise_fall_two_cycles m d mark marked formed third fourth = record {
     }
 
     back : (n : ℕ) → 1 ≤ n → RiseFallKeptIn m d (suc (suc n)) → RiseFallKeptIn m d n
-    back n h = rise_fall_as_in m d (suc (suc n)) n formed (λ r q e. repeats_at m mark marked r n h ∙ e)
+    back n h = kept_as_in m d (suc (suc n)) n formed (λ r q e. repeats_at m mark marked r n h ∙ e)
         (λ r q. omega (arith, launch_on m mark marked r n h)) (λ r q. omega (arith, until_on m mark marked r n h))
 
     on : (n : ℕ) → 3 ≤ n → RiseFallKeptIn m d n → RiseFallKeptIn m d (suc (suc n))
-    on n h = rise_fall_as_in m d n (suc (suc n)) formed (λ r q e. sym (repeats_at m mark marked r n (omega arith)) ∙ e)
+    on n h = kept_as_in m d n (suc (suc n)) formed (λ r q e. sym (repeats_at m mark marked r n (omega arith)) ∙ e)
         (λ r q. omega (arith, launch_later m mark marked r n h))
         (λ r q. omega (arith, until_on m mark marked r n (omega arith)))
 
@@ -334,8 +334,8 @@ rise_fall_two_cycles m d mark marked formed third fourth = record {
     each (suc (suc (suc (suc (suc n))))) = on (suc (suc (suc n))) (omega arith) (each (suc (suc (suc n))))
 
 -- cycles in which all registers take are alike
-pub rise_fall_one_cycle : RiseFallOneCycle
-rise_fall_one_cycle m d always formed kept = record {
+pub one_cycle : RiseFallOneCycle
+one_cycle m d always formed kept = record {
   formed = formed;
   setup_kept = λ n r h e. (each n).setup_kept r h e;
   hold_kept = λ n r h e. (each n).hold_kept r h e;
@@ -346,11 +346,11 @@ rise_fall_one_cycle m d always formed kept = record {
     begins r (suc n) = launch_anew m r n (always r n)
 
     each : (n : ℕ) → RiseFallKeptIn m d n
-    each n = rise_fall_as_in m d 0 n formed (λ r h e. always r 0) (λ r h. omega (arith, begins r n, begins r 0))
+    each n = kept_as_in m d 0 n formed (λ r h e. always r 0) (λ r h. omega (arith, begins r n, begins r 0))
         (λ r h. omega (arith, until_next m r n (always r n), until_next m r 0 (always r 0))) kept
 
-pub rise_fall_fewer_takes : RiseFallFewerTakes
-rise_fall_fewer_takes m d more sub passed =
+pub fewer_takes : RiseFallFewerTakes
+fewer_takes m d more sub passed =
     let f = passed.formed in
     record {
       formed = record {
@@ -433,8 +433,8 @@ setup_narrower new old d e v formed n r h kept = setup_within new old d e v form
 pub hold_narrower : HoldNarrower
 hold_narrower new old d e v formed n r h kept = hold_within new old d e v formed n r h kept
 
-pub rise_fall_narrower : RiseFallNarrower
-rise_fall_narrower new old d e v passed =
+pub narrower : RiseFallNarrower
+narrower new old d e v passed =
     let w = v.board_within in
     let in_old = λ (r : ℕ) (h : r < new.registers). let q : r < old.registers = omega (arith, w.registers_same) in q in
     record {
@@ -477,6 +477,6 @@ pub setup_slower : SetupSlower
 setup_slower m d p formed longer n r h kept =
     setup_narrower (with_period m p) m d d (slower_within m d p formed longer) formed n r h kept
 
-pub rise_fall_slower : RiseFallSlower
-rise_fall_slower m d p longer passed =
-    rise_fall_narrower (with_period m p) m d d (slower_within m d p passed.formed longer) passed
+pub slower : RiseFallSlower
+slower m d p longer passed =
+    narrower (with_period m p) m d d (slower_within m d p passed.formed longer) passed

@@ -14,7 +14,7 @@ use Rattle.rise_fall.specs.Gate.{Bounds, GateBounds, RiseFallMoves, RiseFallMove
 use Rattle.rise_fall.specs.Paths.{side}
 use Rattle.rise_fall.specs.Promise.{sources_in, stable_in, RiseFallPassed, RiseFallCanGo}
 use Rattle.rise_fall.specs.Times.{shortest, longest, Stable, delay_late, from_by, until_by, has_arc, gate_stable}
-use Rattle.rise_fall.proofs.Keeping.{stable_source, stable_gate, rise_fall_window}
+use Rattle.rise_fall.proofs.Keeping.{stable_source, stable_gate, window}
 use Rattle.rise_fall.proofs.Seeing.{in_larger, in_smaller, sees_by}
 use Rattle.rise_fall.proofs.Times.{late_below, early_above, late_some}
 
@@ -84,9 +84,9 @@ by_directions : Circuit → (one two : (k t : ℕ) → Bool → ℕ) → ℕ →
 by_directions c one two n g a b t =
     output g.table (a (t - one (n - c.inputs) t (a (t - 1)))) (b (t - two (n - c.inputs) t (b (t - 1))))
 
-pub rise_fall_can_go : RiseFallCanGo
+pub can_go : RiseFallCanGo
 unfolding by_directions
-rise_fall_can_go m d start outside clock one two passed within clocks order =
+can_go m d start outside clock one two passed within clocks order =
     let c = m.circuit in
     let f = passed.formed in
     let ranges = λ (k : ℕ) (b : Bool) (h : k < length m.circuit.gates). let o = within.one_within k 0 b h in
@@ -116,7 +116,7 @@ rise_fall_can_go m d start outside clock one two passed within clocks order =
             (λ i t h. ap (λ (x : Wave). x t) (all_in (by_directions c one two) c f.sound s i h)) (λ n r h e shown.
             let at_clock = clocks (suc n) r h in
             let v = ideal m.circuit (reference m start outside n) (m.takes r) in
-            rise_fall_window c d w (reference m start outside n)
+            window c d w (reference m start outside n)
             (sources_in m n) f.sound moves shown
             (m.takes r) (clock (suc n) r) (f.taken r h)
             (omega (arith, passed.setup_kept n r h e v)) (omega (arith, passed.hold_kept n r h e v)));

@@ -108,8 +108,8 @@ module _ (c : Circuit) (d : ℕ → GateBounds) (sound : Sound c) (s : ℕ → S
   stable_gate k h = let n : c.inputs + k - c.inputs ≡ k = omega arith in
       rw n at (all_at (λ n. gate_stable (d (n - c.inputs))) c sound s k h)
 
-pub rise_fall_window : RiseFallWindow
-rise_fall_window c d w b s sound moves shown k t h a z = all_along k h t a z
+pub window : RiseFallWindow
+window c d w b s sound moves shown k t h a z = all_along k h t a z
   where
     all_along : (k : ℕ) → k < signals c → (t : ℕ) → (stable c d s k).from (ideal c b k) ≤ t →
         t < (stable c d s k).until (ideal c b k) → w k t ≡ ideal c b k
@@ -193,7 +193,7 @@ signal_shows : (m : Board) (d : ℕ → GateBounds) (w : ℕ → Wave) → Sound
     (stable_in m d n k).from (ideal m.circuit b k) ≤ t → t < (stable_in m d n k).until (ideal m.circuit b k) →
     w k t ≡ ideal m.circuit b k
 signal_shows m d w sound moves n b show =
-    rise_fall_window m.circuit d w b (λ i. record {
+    window m.circuit d w b (λ i. record {
       from =
           λ v. since m n i;
       until = λ v. still_until m n i;
@@ -210,11 +210,11 @@ module _ (m : Board) (d : ℕ → GateBounds) (x : Trace) (passed : RiseFallPass
       (m.takes r) t (passed.formed.taken r h)
       (omega (arith, passed.setup_kept n r h e v)) (omega (arith, passed.hold_kept n r h e v))
 
-pub rise_fall_promise : RiseFallPromise
-rise_fall_promise m d passed x run = holds_reference m x run.sources (right m d x passed run)
+pub promise_kept : RiseFallPromise
+promise_kept m d passed x run = holds_reference m x run.sources (right m d x passed run)
 
-pub rise_fall_in_window : RiseFallInWindow
-rise_fall_in_window m d passed x run n =
+pub in_window : RiseFallInWindow
+in_window m d passed x run n =
     signal_shows m d x.waves passed.formed.sound run.gates n (reference m x.start x.outside n)
     (shows_reference m x run.sources (right m d x passed run) n)
 

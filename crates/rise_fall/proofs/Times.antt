@@ -280,9 +280,9 @@ module _ (c : Circuit) (d : ℕ → GateBounds) (s : ℕ → Stable) (sound : So
       early_step k h p q v (true, a, r, is) = let b = q a in
           (b.0, b.1, (k, true, a) ∷ b.2, (refl, h, r, b.3), rw (stable_gate c d sound s k h) (omega (arith, b.4)))
 
-pub rise_fall_latest_is : RiseFallLatestIs
-rise_fall_latest_is c d s k v sound h = (λ i u p l. none_later c d s sound i u p k v l, some_latest c d s sound k h v)
+pub latest_is : RiseFallLatestIs
+latest_is c d s k v sound h = (λ i u p l. none_later c d s sound i u p k v l, some_latest c d s sound k h v)
 
-pub rise_fall_earliest_is : RiseFallEarliestIs
-rise_fall_earliest_is c d s k v sound h =
+pub earliest_is : RiseFallEarliestIs
+earliest_is c d s k v sound h =
     (λ i u p l. none_sooner c d s sound i u p k v l, some_earliest c d s sound k h v)
