@@ -17,7 +17,7 @@ use Rattle.rise_fall.proofs.Keeping.{seen_from, seen_until}
 use Rattle.rise_fall.proofs.Merging.{each, buffer_between}
 use Rattle.rise_fall.proofs.Seeing.{sees_by}
 
--- the input is up at moment 3 only, and the output never
+-- the input is 1 at moment 3 only, and the output never
 up_once : ℕ → Wave
 up_once zero t = eqb t 3
 up_once (suc k) t = false
@@ -68,7 +68,7 @@ length_matters = (
   refl,
 )
 
--- the input goes up at moment 3 and stays, the output a moment later
+-- the input rises at moment 3, and the output a moment later
 up_late : ℕ → Wave
 up_late zero t = nat_lt 2 t
 up_late (suc k) t = nat_lt 3 t

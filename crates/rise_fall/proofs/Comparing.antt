@@ -1,11 +1,10 @@
--- Times with directions over sources and bounds within others.
+-- Times by transition over sources and bounds within others.
 use Rattle.std.proofs.Common.{◌≡◌, ℕ, suc, ◌+◌, ◌-◌, ◌<◌, ◌≤◌, Bool, true, false, cond, min, max, leb, length, sym}
 use Rattle.std.proofs.Common.{refl, ◌∙◌, inl, inr, arith, zero, ◌*◌, ap}
 use Rattle.std.proofs.Math.Nat.{mul-add}
 use Rattle.std.proofs.lemmas.Bool.{cases_lt, cases_Bool, cond-true, cond-false, le-leb, lt-leb}
 use Rattle.circuit.proofs.Signals.{each_signal}
 use Rattle.circuit.specs.Circuit.{Circuit, gate, signals, Sound}
-use Rattle.circuit.specs.Gate.{output}
 use Rattle.circuit.specs.declared.gate.Gate.{Gate}
 use Rattle.board.proofs.Comparing.{times_more, since_less, until_more, since_in, until_in, narrower_since}
 use Rattle.board.proofs.Comparing.{narrower_until, within_self}
@@ -18,11 +17,12 @@ use Rattle.rise_fall.specs.Cycles.{RiseFallKeptIn, RiseFallTwoCycles, RiseFallOn
 use Rattle.rise_fall.specs.Gate.{Bounds, GateBounds}
 use Rattle.rise_fall.specs.Paths.{side}
 use Rattle.rise_fall.specs.Promise.{sources_in, stable_in, SetupKept, HoldKept}
-use Rattle.rise_fall.specs.Times.{shortest, longest, Stable, delay_late, from_by, until_by, equal_bits, has_arc}
-use Rattle.rise_fall.specs.Times.{swapped, larger, soonest, longest_still, merged, gate_stable, stable}
+use Rattle.rise_fall.specs.Times.{longest, Stable, delay_late, from_by, until_by, delayed, has_arc, gate_stable}
+use Rattle.rise_fall.specs.Times.{stable}
 use Rattle.rise_fall.specs.Within.{BoundsWithin, GateBoundsWithin, RiseFallWithin, SetupNarrower, HoldNarrower}
 use Rattle.rise_fall.specs.Within.{RiseFallNarrower, with_period, SetupSlower, RiseFallSlower}
-use Rattle.rise_fall.proofs.Keeping.{soonest_at, longest_still_at, stable_source, stable_gate}
+use Rattle.rise_fall.proofs.Keeping.{stable_source, stable_gate}
+use Rattle.rise_fall.proofs.Merging.{merged_from, merged_until}
 use Rattle.rise_fall.proofs.Times.{late_at, late_below, late_some}
 
 -- S is stable no later than T and for no less, where S is moved by a and T by b at the beginning, by x and y at the
@@ -72,39 +72,15 @@ module _ (a b x y : ℕ) (order : b + x ≤ y + a) where
   unfolding until_by
   until_inside d e S T within i v = omega (arith, within.least_within true, within.least_within false, i.ends v)
 
-  cond_inside : (p q : ℕ) (t : Bool) (i j u v : ℕ) → p + i ≤ q + u → p + j ≤ q + v → p + cond t i j ≤ q + cond t u v
-  cond_inside p q true i j u v h k = h
-  cond_inside p q false i j u v h k = k
-
   gate_inside : (g h : Gate) → g.table ≡ h.table → (d e : GateBounds) (S T X Y : Stable) → GateBoundsWithin d e →
       Inside a b x y S X → Inside a b x y T Y →
       Inside a b x y (gate_stable d g S T) (gate_stable e h X Y)
-  unfolding merged soonest longest_still
-  gate_inside g h equal_bits d e S T X Y within sx ty =
-      let lx = λ (v : Bool). from_inside d.one e.one S X within.one_within sx v in
-      let ly = λ (v : Bool). from_inside d.two e.two T Y within.two_within ty v in
-      let ex = λ (v : Bool). until_inside d.one e.one S X within.one_within sx v in
-      let ey = λ (v : Bool). until_inside d.two e.two T Y within.two_within ty v in
-      let low : a + soonest_at d S T ≤ b + soonest_at e X Y = omega (arith, lx true, lx false, ly true, ly false) in
-      let high : y + longest_still_at e X Y ≤ x + longest_still_at d S T = omega
-      (arith, ex true, ex false, ey true, ey false) in
-      rw equal_bits (record {
-        begins = λ v.
-            let f = output h.table in
-            let fx = λ (z : Bool). cond_inside a b (has_arc f z v) (from_by d.one S z) (soonest_at d S T)
-            (from_by e.one X z) (soonest_at e X Y) (lx z) low in
-            let fy = λ (z : Bool). cond_inside a b (has_arc (swapped f) z v) (from_by d.two T z) (soonest_at d S T)
-            (from_by e.two Y z) (soonest_at e X Y) (ly z) low in
-            omega (arith, fx true, fx false, fy true, fy false);
-        ends = λ v.
-            let f = output h.table in
-            let fx = λ (z : Bool). cond_inside y x (has_arc f z v) (until_by e.one X z) (longest_still_at e X Y)
-            (until_by d.one S z) (longest_still_at d S T) (ex z) high in
-            let fy = λ (z : Bool).
-            cond_inside y x (has_arc (swapped f) z v) (until_by e.two Y z) (longest_still_at e X Y)
-            (until_by d.two T z) (longest_still_at d S T) (ey z) high in
-            omega (arith, fx true, fx false, fy true, fy false);
-      })
+  gate_inside g h table d e S T X Y within sx ty = record {
+    begins = merged_from g h table a b (delayed d.one S) (delayed d.two T) (delayed e.one X) (delayed e.two Y)
+        (from_inside d.one e.one S X within.one_within sx) (from_inside d.two e.two T Y within.two_within ty);
+    ends = merged_until h g (sym table) y x (delayed e.one X) (delayed e.two Y) (delayed d.one S) (delayed d.two T)
+        (until_inside d.one e.one S X within.one_within sx) (until_inside d.two e.two T Y within.two_within ty);
+  }
 
   -- every signal
   pub stable_inside : (new old : Circuit) → Sound new → Sound old → new.inputs ≡ old.inputs →
@@ -166,28 +142,6 @@ kept_as_in m d a b formed takers begins ending kept = record {
         (sources_in m a)
         (λ i h. record { begins = λ v. since_in m a b begins i; ends = λ v. until_in m a b ending i })
 
--- how long a gate is stable depends only on how long its inputs are
-untils : (g : Gate) (d : GateBounds) (S T S' T' : Stable) (z a : ℕ) → ((v : Bool) → z + T.until v ≤ a + S.until v) →
-    ((v : Bool) → z + T'.until v ≤ a + S'.until v) →
-    (v : Bool) → z + (gate_stable d g T T').until v ≤ a + (gate_stable d g S S').until v
-unfolding merged longest_still until_by
-untils g d S T S' T' z a p q v =
-    let f = output g.table in
-    let pt = p true in
-    let pf = p false in
-    let qt = q true in
-    let qf = q false in
-    let top = max (larger (λ (b : Bool). T.until b + shortest d.one))
-    (larger (λ (b : Bool). T'.until b + shortest d.two)) in
-    let above = max (larger (λ (b : Bool). S.until b + shortest d.one))
-    (larger (λ (b : Bool). S'.until b + shortest d.two)) in
-    let high : z + top ≤ a + above = omega arith in
-    let fx = λ (b : Bool). cond_inside 0 0 0 0 (omega arith) z a (has_arc f b v) (T.until b + shortest d.one) top
-    (S.until b + shortest d.one) above (omega (arith, p b)) high in
-    let fy = λ (b : Bool). cond_inside 0 0 0 0 (omega arith) z a (has_arc (swapped f) b v)
-    (T'.until b + shortest d.two) top (S'.until b + shortest d.two) above (omega (arith, q b)) high in
-    omega (arith, fx true, fx false, fy true, fy false)
-
 -- S is stable no later than one of T and U, moved by x and y from a, and for no less than either
 record Between (a x y : ℕ) (S T U : Stable) : Type 0 where
   begins : (v : Bool) → a + S.from v ≤ max (x + T.from v) (y + U.from v)
@@ -242,25 +196,17 @@ module _ (a x y : ℕ) where
     where
       gate_between : (g : Gate) (d : GateBounds) (S T U S' T' U' : Stable) → Between a x y S T U →
           Between a x y S' T' U' → Between a x y (gate_stable d g S S') (gate_stable d g T T') (gate_stable d g U U')
-      gate_between g d S T U S' T' U' p q =
-          let one = gate_inside' g d S T S' T' x (λ v. p.first v) (λ v. q.first v) in
-          let two = gate_inside' g d S U S' U' y (λ v. p.second v) (λ v. q.second v) in
-          record {
-            begins = λ v. begins_by g d S T U S' T' U' p q v (late_some g d S S' v).0 (late_some g d S S' v).1
-                (late_some g d S S' v).2 (late_some g d S S' v).3;
-            first = one;
-            second = two;
-          }
+      gate_between g d S T U S' T' U' p q = record {
+        begins = λ v. let l = late_some g d S S' v in begins_by g d S T U S' T' U' p q v l.0 l.1 l.2 l.3;
+        first = merged_until g g refl x a (delayed d.one T) (delayed d.two T') (delayed d.one S) (delayed d.two S')
+            (λ v. later d.one T S x v (p.first v)) (λ v. later d.two T' S' x v (q.first v));
+        second = merged_until g g refl y a (delayed d.one U) (delayed d.two U') (delayed d.one S) (delayed d.two S')
+            (λ v. later d.one U S y v (p.second v)) (λ v. later d.two U' S' y v (q.second v));
+      }
         where
-          until_only : (g : Gate) (d : GateBounds) (S T S' T' : Stable) (z : ℕ) →
-              ((v : Bool) → z + T.until v ≤ a + S.until v) → ((v : Bool) → z + T'.until v ≤ a + S'.until v) →
-              (v : Bool) → z + (gate_stable d g T T').until v ≤ a + (gate_stable d g S S').until v
-          until_only g d S T S' T' z p q v = untils g d S T S' T' z a p q v
-
-          gate_inside' : (g : Gate) (d : GateBounds) (S T S' T' : Stable) (z : ℕ) →
-              ((v : Bool) → z + T.until v ≤ a + S.until v) → ((v : Bool) → z + T'.until v ≤ a + S'.until v) →
-              (v : Bool) → z + (gate_stable d g T T').until v ≤ a + (gate_stable d g S S').until v
-          gate_inside' g d S T S' T' z p q v = until_only g d S T S' T' z p q v
+          later : (d : Bounds) (T S : Stable) (z : ℕ) (v : Bool) → z + T.until v ≤ a + S.until v →
+              z + until_by d T v ≤ a + until_by d S v
+          later d T S z v h = unfold until_by in omega arith
 
           begins_by : (g : Gate) (d : GateBounds) (S T U S' T' U' : Stable) → Between a x y S T U →
               Between a x y S' T' U' → (v : Bool) (second b : Bool) → has_arc (side second g) b v ≡ true →

@@ -1,4 +1,4 @@
--- Boards with four bounds can go; and two runs that shorter rules would miss.
+-- A passed board can go.
 use Rattle.std.proofs.Common.{◌≡◌, ℕ, suc, ◌+◌, ◌-◌, ◌<◌, ◌≤◌, Bool, true, false, min, max, length, inl, inr, arith}
 use Rattle.std.proofs.Common.{◌*◌, ap, nat_le}
 use Rattle.std.proofs.lemmas.Bool.{cond_both, cases_eq}
@@ -79,13 +79,13 @@ positive m d passed ranges r n h e = elim (cases_eq m.period 0) [
       ))
 ]
 
--- waves by delays of the direction that an input had just before
-by_directions : Circuit → (one two : (k t : ℕ) → Bool → ℕ) → ℕ → Gate → Wave → Wave → Wave
-by_directions c one two n g a b t =
+-- waves by delays of the transition that an input had just before
+by_transitions : Circuit → (one two : (k t : ℕ) → Bool → ℕ) → ℕ → Gate → Wave → Wave → Wave
+by_transitions c one two n g a b t =
     output g.table (a (t - one (n - c.inputs) t (a (t - 1)))) (b (t - two (n - c.inputs) t (b (t - 1))))
 
 pub can_go : RiseFallCanGo
-unfolding by_directions
+unfolding by_transitions
 can_go m d start outside clock one two passed within clocks order =
     let c = m.circuit in
     let f = passed.formed in
@@ -93,10 +93,10 @@ can_go m d start outside clock one two passed within clocks order =
     let t = within.two_within k 0 b h in ranged (d k) b (one k 0 b) (two k 0 b) o t in
     let pos = positive m d passed ranges in
     let s = sources m start outside clock f pos clocks order in
-    let w : ℕ → Wave = along (by_directions c one two) c.inputs c.gates s in
+    let w : ℕ → Wave = along (by_transitions c one two) c.inputs c.gates s in
     let by : RiseFallMovesBy c one two w = λ k t h.
     let n : c.inputs + k - c.inputs ≡ k = omega arith in
-    rw n at (ap (λ (x : Wave). x t) (all_at (by_directions c one two) c f.sound s k h)) in
+    rw n at (ap (λ (x : Wave). x t) (all_at (by_transitions c one two) c f.sound s k h)) in
     let moves : RiseFallMoves c d w = (
       λ x i. w x 0,
       λ k t h. record {
@@ -113,7 +113,7 @@ can_go m d start outside clock one two passed within clocks order =
       w,
       record {
         sources = behave m start outside clock f pos clocks order w
-            (λ i t h. ap (λ (x : Wave). x t) (all_in (by_directions c one two) c f.sound s i h)) (λ n r h e shown.
+            (λ i t h. ap (λ (x : Wave). x t) (all_in (by_transitions c one two) c f.sound s i h)) (λ n r h e shown.
             let at_clock = clocks (suc n) r h in
             let v = ideal m.circuit (reference m start outside n) (m.takes r) in
             window c d w (reference m start outside n)

@@ -1,4 +1,4 @@
--- Windows with delays by direction.
+-- Windows with delays by transition.
 use Rattle.std.proofs.Common.{◌≡◌, ℕ, suc, ◌+◌, ◌-◌, ◌<◌, ◌≤◌, Bool, true, false, not, ◌&&◌, cond, min, max, leb}
 use Rattle.std.proofs.Common.{length, sym, refl, ap₂, ◌∙◌, inl, inr, arith}
 use Rattle.std.proofs.lemmas.Bool.{cases_Bool, cond-true, cond_both, and_cases, or_parts, or_left, not-false}
@@ -39,7 +39,7 @@ same_true true false e = sym e
 same_true false true e = e
 same_true false false e = refl
 
--- where a does not make v the other bit does as well
+-- where a is not what makes the output v, it is v with the other bit too
 no_part : (x y v : Bool) → (equal_bits x v && not (equal_bits y v)) ≡ false → x ≡ v → y ≡ v
 no_part x y v e is = elim (and_cases (equal_bits x v) (not (equal_bits y v)) e) [
   | inl q ↦ absurd (both_ways (equal_bits x v) q (same_refl x v is))
@@ -51,7 +51,7 @@ unfolding makes
 does_not_make f a v true e is = no_part (f a true) (f (not a) true) v (or_parts _ _ e).0 is
 does_not_make f a v false e is = no_part (f a false) (f (not a) false) v (or_parts _ _ e).1 is
 
--- a bit that is seen right where it has an arc serves as well as the right one
+-- a bit that is right wherever it has an arc gives the output that the right one gives
 serves : (f : Bool → Bool → Bool) (a v p y : Bool) → (has_arc f a v ≡ true → p ≡ a) → f a y ≡ v → f p y ≡ v
 unfolding has_arc
 serves f a v p y seen is = elim (either_bit p a) [
@@ -129,7 +129,7 @@ window c d w b s sound moves shown k t h a z = all_along k h t a z
         (rw (stable_gate c d sound s k h, is) at a) (rw (stable_gate c d sound s k h, is) at z)
         ∙ sym is)
 
--- through one input no worse than with the widest bounds
+-- an input is seen no later, and for no less, than by two bounds that its four lie within
 pub seen_from : (b : Bounds) (T : Stable) (a : Bool) (l m : ℕ) → ((v : Bool) → b.greatest v ≤ m) → T.from a ≤ l →
     from_by b T a ≤ l + m
 unfolding from_by delay_late
@@ -167,7 +167,7 @@ no_worse_than_widest c d sound within L E s sources = each_signal c sound
     (λ k h p q b. rw (stable_gate c d sound s k h, arrival_at Late c sound L k h, arrival_at Early c sound E k h)
     (gate_better (gate c k) (d k) _ _ b _ _ _ _ (within k h) p q))
 
--- what is seen is what was within the widest bounds ago
+-- what a gate sees is what its input was some time ago within its two bounds
 pub moves_within : MovesWithin
 moves_within c d w within moves k t h a z =
     let f = moves.1 k t h in
@@ -175,19 +175,18 @@ moves_within c d w within moves k t h a z =
     record {
       delay_one = f.sees_one.delay;
       delay_two = f.sees_two.delay;
-      one_least = omega (arith, f.sees_one.no_less, (i.one_within f.sees_one.direction).0);
-      one_greatest = omega (arith, f.sees_one.no_more, (i.one_within f.sees_one.direction).1);
-      two_least = omega (arith, f.sees_two.no_less, (i.two_within f.sees_two.direction).0);
-      two_greatest = omega (arith, f.sees_two.no_more, (i.two_within f.sees_two.direction).1);
+      one_least = omega (arith, f.sees_one.no_less, (i.one_within f.sees_one.transition).0);
+      one_greatest = omega (arith, f.sees_one.no_more, (i.one_within f.sees_one.transition).1);
+      two_least = omega (arith, f.sees_two.no_less, (i.two_within f.sees_two.transition).0);
+      two_greatest = omega (arith, f.sees_two.no_more, (i.two_within f.sees_two.transition).1);
       is = f.is ∙ ap₂ (output (gate c k).table)
           (f.sees_one.is ∙ ago_is _ _ t f.sees_one.delay
-          (omega (arith, f.sees_one.no_more, (i.one_within f.sees_one.direction).1)))
+          (omega (arith, f.sees_one.no_more, (i.one_within f.sees_one.transition).1)))
           (f.sees_two.is ∙ ago_is _ _ t f.sees_two.delay
-          (omega (arith, f.sees_two.no_more, (i.two_within f.sees_two.direction).1)));
+          (omega (arith, f.sees_two.no_more, (i.two_within f.sees_two.transition).1)));
     }
 
--- THE PROMISE over these windows sources that show the bits b in their windows of cycle n make every signal show its
--- ideal bit while it is stable at that bit
+-- sources that show the bits b in their windows of cycle n make every signal show its ideal bit while it is stable
 signal_shows : (m : Board) (d : ℕ → GateBounds) (w : ℕ → Wave) → Sound m.circuit → RiseFallMoves m.circuit d w →
     (n : ℕ) (b : ℕ → Bool) → Show m w n b → (k t : ℕ) → k < signals m.circuit →
     (stable_in m d n k).from (ideal m.circuit b k) ≤ t → t < (stable_in m d n k).until (ideal m.circuit b k) →

@@ -1,5 +1,5 @@
 -- What a gate makes of the times at its inputs, by bounds; and facts of each number below some other.
-use Rattle.std.proofs.Common.{◌≡◌, ℕ, suc, ◌<◌, ◌≤◌, Bool, true, false, cond, arith, zero}
+use Rattle.std.proofs.Common.{◌≡◌, ℕ, suc, ◌+◌, ◌<◌, ◌≤◌, Bool, true, false, cond, arith, zero}
 use Rattle.circuit.specs.Gate.{output}
 use Rattle.circuit.specs.declared.gate.Gate.{Gate}
 use Rattle.rise_fall.specs.Times.{Stable, makes, is_constant, has_arc, swapped, soonest, longest_still, merged}
@@ -43,6 +43,43 @@ merged_between g x y l e xs ys v =
     let ux = λ (a : Bool). cond_more (has_arc f a v) (x.until a) (longest_still x y) e (xs a).1 top in
     let uy = λ (a : Bool). cond_more (has_arc (swapped f) a v) (y.until a) (longest_still x y) e (ys a).1 top in
     (omega (arith, fx true, fx false, fy true, fy false), omega (arith, ux true, ux false, uy true, uy false))
+
+-- moving the times at a gate's inputs moves those of its output
+module _ (g h : Gate) (table : g.table ≡ h.table) (a b : ℕ) (S T X Y : Stable) where
+  cond_moved : (t : Bool) (i j u v : ℕ) → a + i ≤ b + u → a + j ≤ b + v → a + cond t i j ≤ b + cond t u v
+  cond_moved true i j u v p q = p
+  cond_moved false i j u v p q = q
+
+  pub merged_from : ((v : Bool) → a + S.from v ≤ b + X.from v) → ((v : Bool) → a + T.from v ≤ b + Y.from v) →
+      (v : Bool) → a + (merged g S T).from v ≤ b + (merged h X Y).from v
+  unfolding merged soonest
+  merged_from sx ty v =
+      let f = output h.table in
+      let sx_up = sx true in
+      let sx_down = sx false in
+      let ty_up = ty true in
+      let ty_down = ty false in
+      let low : a + soonest S T ≤ b + soonest X Y = omega arith in
+      let one = λ (z : Bool). cond_moved (has_arc f z v) (S.from z) (soonest S T) (X.from z) (soonest X Y) (sx z) low in
+      let two = λ (z : Bool).
+      cond_moved (has_arc (swapped f) z v) (T.from z) (soonest S T) (Y.from z) (soonest X Y) (ty z) low in
+      rw table (omega (arith, one true, one false, two true, two false))
+
+  pub merged_until : ((v : Bool) → a + S.until v ≤ b + X.until v) → ((v : Bool) → a + T.until v ≤ b + Y.until v) →
+      (v : Bool) → a + (merged g S T).until v ≤ b + (merged h X Y).until v
+  unfolding merged longest_still
+  merged_until sx ty v =
+      let f = output h.table in
+      let sx_up = sx true in
+      let sx_down = sx false in
+      let ty_up = ty true in
+      let ty_down = ty false in
+      let high : a + longest_still S T ≤ b + longest_still X Y = omega arith in
+      let one = λ (z : Bool).
+      cond_moved (has_arc f z v) (S.until z) (longest_still S T) (X.until z) (longest_still X Y) (sx z) high in
+      let two = λ (z : Bool).
+      cond_moved (has_arc (swapped f) z v) (T.until z) (longest_still S T) (Y.until z) (longest_still X Y) (ty z) high in
+      rw table (omega (arith, one true, one false, two true, two false))
 
 -- a buffer of its first input has each bit no later than that bit is seen there, and for no less
 pub buffer_between : (g : Gate) → g.table ≡ 10 → (x y : Stable) (v : Bool) →

@@ -20,7 +20,7 @@ either_bit true false = inr refl
 either_bit false true = inr refl
 either_bit false false = inl refl
 
--- the last change was to the bit that there was just before now
+-- the last transition was to the bit that there was just before now
 last_is : (x : ℕ → Bool) (b : Bool) → LastTo x b → x 1 ≡ b
 last_is x b l = l.2 1 (omega arith) l.1
 
@@ -29,13 +29,13 @@ pub ago_is : (past x : Wave) (t d : ℕ) → d ≤ t → ago past x t d ≡ x (t
 unfolding ago
 ago_is past x t d h = cond-false _ _ _ (le-ltb t d h)
 
--- what is seen of an input that is stable of a is a
+-- what is seen of an input that is stable at a is a
 pub seen_by : (past x : Wave) (a : Bool) (T : Stable) (b : Bounds) (t : ℕ) (p : Bool) →
     ((u : ℕ) → T.from a ≤ u → u < T.until a → x u ≡ a) → Sees b (ago past x t) p →
     from_by b T a ≤ t → t < until_by b T a → p ≡ a
 unfolding from_by delay_late until_by
 seen_by past x a T b t p shown sees start stop =
-    let v = sees.direction in
+    let v = sees.transition in
     let d = sees.delay in
     let l = sees.no_less in
     let h = sees.no_more in
@@ -72,7 +72,7 @@ seen_up_to : (past x : Wave) (a : Bool) (T : Stable) (b : Bounds) (t : ℕ) (p :
     from_by b T a ≤ t → t < until_by b T a → p ≡ a
 unfolding from_by delay_late until_by
 seen_up_to past x a T b t p shown sees start stop =
-    let v = sees.direction in
+    let v = sees.transition in
     let d = sees.delay in
     let l = sees.no_less in
     let h = sees.no_more in
@@ -104,7 +104,7 @@ pub either_reading : EitherReading
 either_reading past x a s b t p shown (inl sees) start stop = seen_by past x a s b t p shown sees start stop
 either_reading past x a s b t p shown (inr sees) start stop = seen_up_to past x a s b t p shown sees start stop
 
--- of what was, up to some time ago, either all was as just before now, or there was a last change
+-- back to any moment either all bits are as just before now, or there was a last transition
 last_or_none : (h : ℕ → Bool) (n : ℕ) → ((i : ℕ) → 1 ≤ i → i ≤ suc n → h i ≡ h 1) ⊎ LastTo h (h 1)
 last_or_none h zero = inl (λ i a z. let e : i ≡ 1 = omega arith in rw e)
 last_or_none h (suc n) = elim (last_or_none h n) [
@@ -115,7 +115,7 @@ last_or_none h (suc n) = elim (last_or_none h n) [
   ]
 ]
 
--- a signal that was before moment 0 what it is then has a last change, or none
+-- a signal that never changed before moment 0 has a last transition, or none
 decided : (x : Wave) (t : ℕ) → LastTo (ago (λ i. x 0) x t) (ago (λ i. x 0) x t 1) ⊎ NeverChanged (ago (λ i. x 0) x t)
 unfolding ago
 decided x t = elim (last_or_none (ago (λ i. x 0) x t) t) [
@@ -129,7 +129,7 @@ decided x t = elim (last_or_none (ago (λ i. x 0) x t) t) [
     before : (i : ℕ) → t < i → ago (λ i. x 0) x t i ≡ x 0
     before i h = unfold ago in cond-true _ _ _ (lt-ltb t i h)
 
--- what was d ago, where the past is as at moment 0
+-- its bit d moments ago
 ago_still : (x : Wave) (t d : ℕ) → ago (λ i. x 0) x t d ≡ x (t - d)
 unfolding ago
 ago_still x t d = elim (cases_lt t d) [
@@ -137,12 +137,12 @@ ago_still x t d = elim (cases_lt t d) [
   | inr now ↦ cond-false _ _ _ (le-ltb t d now)
 ]
 
--- a time ago within the bounds of the bit that there was just before now may be seen
+-- its bit may be seen by any delay within the bounds of the bit that it was just before now
 pub sees_by : (b : Bounds) (x : Wave) (t d : ℕ) → b.least (x (t - 1)) ≤ d → d ≤ b.greatest (x (t - 1)) →
     Sees b (ago (λ i. x 0) x t) (x (t - d))
 sees_by b x t d low high = record {
   delay = d;
-  direction = x (t - 1);
+  transition = x (t - 1);
   changed = elim (decided x t) [
     | inl l ↦ inl
         (subst (λ v. LastTo (ago (λ i. x 0) x t) v) (ago_still x t 1) l)

@@ -1,4 +1,4 @@
--- Times with directions are those of paths, and narrower bounds give narrower times.
+-- Times by transition are those of paths.
 use Rattle.std.proofs.Common.{◌≡◌, ℕ, ◌+◌, ◌<◌, ◌≤◌, ◌⊎◌, Bool, true, false, not, ◌&&◌, cond, min, max, length}
 use Rattle.std.proofs.Common.{sym, refl, ◌∙◌, inl, inr, arith, ◌||◌, [], ◌∷◌}
 use Rattle.std.proofs.lemmas.Bool.{cases_lt, cases_Bool, cond-true, cond-false}

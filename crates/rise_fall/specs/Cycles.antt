@@ -18,7 +18,7 @@ RiseFallTwoCycles =
     (m : Board) (d : ℕ → GateBounds) (mark : ℕ → Mark) → Marked m mark → Formed m →
     RiseFallKeptIn m d 3 → RiseFallKeptIn m d 4 → RiseFallPassed m d
 
--- and of one whose registers take in every cycle only one
+-- and of one whose registers take in every cycle only cycle 0
 abbrev pub RiseFallOneCycle : Type 0
 RiseFallOneCycle =
     (m : Board) (d : ℕ → GateBounds) → ((r n : ℕ) → m.takes_at r n ≡ true) → Formed m → RiseFallKeptIn m d 0 →

@@ -16,8 +16,8 @@ pub record GateBounds : Type 0 where
   pub one : Bounds
   pub two : Bounds
 
--- A signal's bits counted back from moment t: at 0 that of the moment itself, at d that of d moments before it.
--- `past` are those from before moment 0, counted back from there
+-- A signal's bits counted back from moment t: at 0 that of the moment itself, at d that of d moments before it. `past`
+-- has those from before moment 0, counted back from there
 unfoldable pub ago : (past x : Wave) (t : ℕ) → ℕ → Bool
 ago past x t d = cond (nat_lt t d) (past (d - suc t)) (x (t - d))
 
@@ -31,13 +31,14 @@ abbrev pub NeverChanged : (ℕ → Bool) → Type 0
 NeverChanged x = (i : ℕ) → 1 ≤ i → x i ≡ x 1
 
 -- What a gate may see of an input: its bit some time ago, by a delay within the bounds of its last transition before
--- now, or within those of either where it never changed
+-- now, or within those of either transition where there was none. `transition` is the bit that it was to: `true` for
+-- rising
 pub record Sees (b : Bounds) (x : ℕ → Bool) (p : Bool) : Type 0 where
   pub delay : ℕ
-  pub direction : Bool
-  pub changed : LastTo x direction ⊎ NeverChanged x
-  pub no_less : b.least direction ≤ delay
-  pub no_more : delay ≤ b.greatest direction
+  pub transition : Bool
+  pub changed : LastTo x transition ⊎ NeverChanged x
+  pub no_less : b.least transition ≤ delay
+  pub no_more : delay ≤ b.greatest transition
   pub is : p ≡ x delay
 
 -- a gate's output is what its table makes of what it sees of its inputs
@@ -48,9 +49,10 @@ pub record RiseFallFollows (g : Gate) (d : GateBounds) (one two : ℕ → Bool) 
   pub sees_two : Sees d.two two bit_two
   pub is : out ≡ output g.table bit_one bit_two
 
--- The waves that a circuit can have whose gates have the bounds d, in place of the two of each input in their
--- records: at every moment every gate follows its inputs, with delays of that moment. Before moment 0 each signal was
--- anything, which is fixed once
+-- The waves that a circuit can have whose gates have the bounds d, in place of the two of each input in their records:
+-- at every moment every gate follows its inputs, with delays of that moment. What was before moment 0 is free, one past
+-- for each signal: so the start is as free as with two bounds, where nothing is said of a gate before its greatest
+-- delays have passed, and each moment still has a last transition, or none
 abbrev pub RiseFallMoves : Circuit → (ℕ → GateBounds) → (ℕ → Wave) → Type 0
 RiseFallMoves c d w =
     (past : ℕ → Wave)
@@ -58,14 +60,14 @@ RiseFallMoves c d w =
     RiseFallFollows (gate c k) (d k) (ago (past (gate c k).one) (w (gate c k).one) t)
     (ago (past (gate c k).two) (w (gate c k).two) t) (w (c.inputs + k) t))
 
--- What a gate may see of an input by the other reading, by which a change at the moment itself is the last one: the
--- delay is within the bounds of the last transition up to now
+-- What a gate may see of an input where a change at the moment itself does count: its bit some time ago, by a delay
+-- within the bounds of its last transition up to now
 pub record SeesUpTo (b : Bounds) (x : ℕ → Bool) (p : Bool) : Type 0 where
   pub delay : ℕ
-  pub direction : Bool
-  pub changed : ((d : ℕ) × ((i : ℕ) → i ≤ d → x i ≡ direction) × (x (suc d) ≡ not direction)) ⊎ ((i : ℕ) → x i ≡ x 0)
-  pub no_less : b.least direction ≤ delay
-  pub no_more : delay ≤ b.greatest direction
+  pub transition : Bool
+  pub changed : ((d : ℕ) × ((i : ℕ) → i ≤ d → x i ≡ transition) × (x (suc d) ≡ not transition)) ⊎ ((i : ℕ) → x i ≡ x 0)
+  pub no_less : b.least transition ≤ delay
+  pub no_more : delay ≤ b.greatest transition
   pub is : p ≡ x delay
 
 -- delays for each gate, moment and transition, within the bounds

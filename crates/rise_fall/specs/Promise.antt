@@ -9,7 +9,7 @@ use Rattle.board.specs.Promise.{InOrder}
 use Rattle.rise_fall.specs.Gate.{GateBounds, RiseFallMoves, RiseFallDelays, RiseFallMovesBy}
 use Rattle.rise_fall.specs.Times.{Stable, stable}
 
--- when the sources of a board show their bits of cycle n: the same for both bits
+-- when the sources of a board are stable in cycle n: in one window for both bits
 abbrev pub sources_in : Board → (n i : ℕ) → Stable
 sources_in m n i = record { from = λ b. since m n i; until = λ b. still_until m n i }
 
@@ -17,8 +17,8 @@ sources_in m n i = record { from = λ b. since m n i; until = λ b. still_until 
 abbrev pub stable_in : Board → (ℕ → GateBounds) → (n k : ℕ) → Stable
 stable_in m d n = stable m.circuit d (sources_in m n)
 
--- register r's signal of cycle n is there, whichever bit it is, the setup time before the earliest clock at the
--- cycle's end, where the signals are stable as `times` says
+-- register r's signal has its bit of cycle n, whichever it is, the setup time before the earliest clock at the cycle's
+-- end, where in this cycle the signals are stable as `times` says
 abbrev pub SetupKept : Board → (times : ℕ → Stable) → (n r : ℕ) → Type 0
 SetupKept m times n r = (b : Bool) → (times (m.takes r)).from b + m.setup ≤ suc n * m.period + m.early r
 

@@ -16,22 +16,22 @@ abbrev pub longest : Bounds → ℕ
 longest b = max (b.greatest true) (b.greatest false)
 
 -- When a signal is stable, for each bit: where it is b when nothing takes time, it shows b from moment `from b` until
--- before moment `until b`
+-- before moment `until b`. Both are moments of a run, so that one can be compared with the other
 pub record Stable : Type 0 where
   pub from : Bool → ℕ
   pub until : Bool → ℕ
 
 -- The delay after which an input's bit a has come through. Once the longest of all delays has passed since a began,
--- every delay reaches back into a, whatever the last transition was. Before that the greatest delay for a alone does,
--- as long as the last transition was to a, so as long as the input was a just before. This is sure only if the input
--- is stable for the longest of all delays: else it may have changed again, and what was before a may still come
--- through by the other transition's delay. So then the longest counts. A change at the moment itself is not before
--- it, so a greatest delay of 0 counts as 1 where the other is not 0
+-- every delay reaches back into a, whatever the last transition was. Before that the greatest delay of a transition
+-- to a is enough, as long as the last transition was to a: so as long as the input was a just before. That is sure if
+-- the input is stable for the longest of all delays. If it is not, it may have changed again meanwhile, and what was
+-- before a may come through by a delay of the other transition: then the longest counts. A change at the moment
+-- itself is not before it, so a greatest delay of 0 counts as 1 where the other is not 0
 unfoldable pub delay_late : Bounds → Stable → Bool → ℕ
 delay_late b x a = cond (nat_le (x.from a + longest b) (x.until a)) (min (longest b) (max 1 (b.greatest a))) (longest b)
 
--- from when on and until when a gate sees an input's bit a. At the end the least of all delays counts, as the input
--- may have changed more than once since then
+-- from when on and until when a gate sees an input's bit a. At the end the least of all delays counts, as nothing is
+-- said of how often the input changes then, and so of its last transition
 unfoldable pub from_by : Bounds → Stable → Bool → ℕ
 from_by b x a = x.from a + delay_late b x a
 
@@ -74,16 +74,16 @@ smaller f = min (f true) (f false)
 abbrev pub larger : (Bool → ℕ) → ℕ
 larger f = max (f true) (f false)
 
--- the smallest and the largest of the four times at a gate's inputs: these stand where there is no arc, since there
--- they change neither the largest nor the smallest of those with one
+-- The smallest and the largest of the four times at a gate's inputs. They stand where there is no arc: each bit of the
+-- output has an arc from some bit of some input, and beside its time they change neither the largest nor the smallest
 unfoldable pub soonest : Stable → Stable → ℕ
 soonest x y = min (smaller x.from) (smaller y.from)
 
 unfoldable pub longest_still : Stable → Stable → ℕ
 longest_still x y = max (larger x.until) (larger y.until)
 
--- when a gate's output is stable, from when it sees its inputs: for each bit the latest beginning and the earliest
--- end of all arcs to it
+-- when a gate's output is stable, from when it sees its inputs: for each bit from the latest beginning until the
+-- earliest end of the arcs to it
 unfoldable pub merged : Gate → Stable → Stable → Stable
 merged g x y = record {
   from = λ v. max
@@ -101,16 +101,16 @@ gate_stable d g x y = merged g (delayed d.one x) (delayed d.two y)
 unfoldable pub stable : Circuit → (ℕ → GateBounds) → (ℕ → Stable) → (ℕ → Stable)
 stable c d s = along (λ n. gate_stable (d (n - c.inputs))) c.inputs c.gates s
 
--- an input that shows the bit a while it is stable is seen as a in the window that its delays leave of this, whether
--- or not a change at the moment itself counts
+-- an input that shows the bit a while it is stable is seen as a in the window that its delays leave of this, whether or
+-- not a change at the moment itself counts: so the times are right for both
 abbrev pub EitherReading : Type 0
 EitherReading =
     (past x : Wave) (a : Bool) (s : Stable) (b : Bounds) (t : ℕ) (p : Bool) →
     ((u : ℕ) → s.from a ≤ u → u < s.until a → x u ≡ a) → Sees b (ago past x t) p ⊎ SeesUpTo b (ago past x t) p →
     (delayed b s).from a ≤ t → t < (delayed b s).until a → p ≡ a
 
--- THE WINDOW LEMMA BY TRANSITION. If each source i shows its bit b i while it is stable, then every signal shows what
--- it is when nothing takes time while it is, whatever the delays do
+-- THE WINDOW LEMMA BY TRANSITION. If each source i shows its bit b i while it is stable, then every signal shows its
+-- bit while it is stable, which is what it is when nothing takes time, whatever the delays do
 abbrev pub RiseFallWindow : Type 0
 RiseFallWindow =
     (c : Circuit) (d : ℕ → GateBounds) (w : ℕ → Wave) (b : ℕ → Bool) (s : ℕ → Stable) → Sound c → RiseFallMoves c d w →

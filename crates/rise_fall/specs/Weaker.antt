@@ -13,10 +13,11 @@ use Rattle.rise_fall.specs.Promise.{sources_in, SumsKept, RiseFallRun}
 abbrev pub both : Bounds → GateBounds
 both b = record { one = b; two = b }
 
--- When a gate sees an input, by each transition's own bounds alone. This looks right: an input that has risen shows
--- at the output once the greatest delay of a rising input has passed, and what ends this is a falling input, so not
--- before the least delay of one. It is not right: where the input rises late and falls early, the last transition
--- before a moment may be the fall already, whose delay may be greater and reach back to before the rise
+-- When a gate sees an input, by each transition's own bounds alone. This looks right: an input that has risen is seen
+-- once the greatest delay of a rising input has passed, and that ends when it has fallen, so not before the least
+-- delay of a falling input has passed. It is not right: where the input rises late and falls early, its last
+-- transition before a moment may be the fall already, and the delay of a falling input may reach back to before the
+-- rise
 abbrev pub delayed_by_own_bounds : Bounds → Stable → Stable
 delayed_by_own_bounds b x = record { from = λ a. x.from a + b.greatest a; until = λ a. x.until a + b.least (not a) }
 
@@ -69,7 +70,9 @@ pulse_bounds (suc (suc k)) = both (record { least = λ b. 2; greatest = λ b. co
 abbrev pub GoesWrongAt : Board → (ℕ → GateBounds) → (r : ℕ) → Type 0
 GoesWrongAt m d r = (x : Trace) × RiseFallRun m d x × ((n : ℕ) × (x.holds n r ≢ reference m x.start x.outside n r))
 
--- by each transition's own bounds alone the board is passed, and register 1 goes wrong
+-- By each transition's own bounds alone the board is passed, and register 1 goes wrong. The least delays of each gate
+-- are equal here, so it is its latest times that fail: the first buffer's output rises at moment 18 and falls at 20,
+-- and at 21 the second one, which should show the rise for 2 moments by then, still shows what was before it
 abbrev pub OwnBoundsFail : Type 0
 OwnBoundsFail = PassedByOwnBounds short_pulse pulse_bounds × GoesWrongAt short_pulse pulse_bounds 1
 

@@ -31,7 +31,7 @@ NoWorseThanWidest =
     (k : ℕ) → k < signals c → (b : Bool) →
     ((stable c d s k).from b ≤ latest c L k) × (earliest c E k ≤ (stable c d s k).until b)
 
--- What is passed with the two bounds is passed with the four, so the four never pass less
+-- what is passed with the two bounds is passed with the four: the four never pass less
 abbrev pub WidestPass : Type 0
 WidestPass = (m : Board) (d : ℕ → GateBounds) → BoundsInCircuit d m.circuit → Passed m → RiseFallPassed m d
 
@@ -42,8 +42,7 @@ equal_bounds g = record {
   two = record { least = λ b. g.least_two; greatest = λ b. g.greatest_two };
 }
 
--- They may pass more, even where they are the two: times by transition go through a gate's table, so an input that
--- the table ignores does not count. So a board whose gates have two bounds keeps the times of two bounds, and what it
--- is said to be does not change where four bounds are known
+-- They may pass more even where they are equal to the two: times by transition go through a gate's table, so that an
+-- input which it ignores does not count. So boards whose gates have two bounds are judged by the times of two bounds
 abbrev pub EqualBoundsPassMore : Type 0
 EqualBoundsPassMore = (m : Board) × RiseFallPassed m (λ k. equal_bounds (gate m.circuit k)) × ¬ Passed m

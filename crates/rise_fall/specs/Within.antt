@@ -22,9 +22,9 @@ pub record RiseFallWithin (new old : Board) (d e : ℕ → GateBounds) : Type 0 
   pub tables_same : (k : ℕ) → k < length old.circuit.gates → (gate new.circuit k).table ≡ (gate old.circuit k).table
   pub bounds_within : (k : ℕ) → k < length old.circuit.gates → GateBoundsWithin (d k) (e k)
 
--- each setup sum that is right stays so with narrower bounds and a longer period, whatever the hold sums and the
--- other registers are. Latest times look at how long inputs are stable, so at their next change: with a longer period
--- this comes later, never sooner
+-- Each setup sum that is right stays so with narrower bounds and a longer period, whatever is so of hold sums and of
+-- other registers. Latest times depend on how long inputs are stable, so on their next change: with a longer period
+-- that never comes sooner
 abbrev pub SetupNarrower : Type 0
 SetupNarrower =
     (new old : Board) (d e : ℕ → GateBounds) → RiseFallWithin new old d e → Formed old →
@@ -45,7 +45,8 @@ RiseFallNarrower =
 abbrev pub with_period : Board → ℕ → Board
 with_period m p = record m { period = p }
 
--- a setup sum that is right with a period is so with every longer one: there is a shortest period
+-- each setup sum that is right with a period is so with every longer one: the periods that are long enough are all
+-- those from a shortest one on
 abbrev pub SetupSlower : Type 0
 SetupSlower =
     (m : Board) (d : ℕ → GateBounds) (p : ℕ) → Formed m → m.period ≤ p → (n r : ℕ) → r < m.registers →
