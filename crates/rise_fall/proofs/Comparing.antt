@@ -107,7 +107,7 @@ all_within_self d = record {
   two_within = record { least_within = λ b. omega arith; greatest_within = λ b. omega arith };
 }
 
--- the same board and bounds, other cycles or another schedule
+-- one board and its bounds, in other cycles or by another schedule
 module _ (c : Circuit) (sound : Sound c) (d : ℕ → GateBounds) (a b x y : ℕ) (order : b + x ≤ y + a) (s u : ℕ → Stable)
     (sources : (i : ℕ) → i < c.inputs → Inside a b x y (s i) (u i)) where
   pub stable_moved : (k : ℕ) → k < signals c → Inside a b x y (stable c d s k) (stable c d u k)

@@ -27,23 +27,23 @@ use Rattle.rise_fall.specs.Widest.{BoundsInGate, MovesWithin, NoWorseThanWidest,
 use Rattle.rise_fall.proofs.Merging.{merged_between}
 use Rattle.rise_fall.proofs.Seeing.{in_larger, in_smaller, either_bit, ago_is, seen_by}
 
-same_refl : (x v : Bool) → x ≡ v → equal_bits x v ≡ true
-same_refl true true e = refl
-same_refl true false e = sym e
-same_refl false true e = e
-same_refl false false e = refl
+equal_if : (x v : Bool) → x ≡ v → equal_bits x v ≡ true
+equal_if true true e = refl
+equal_if true false e = sym e
+equal_if false true e = e
+equal_if false false e = refl
 
-same_true : (x v : Bool) → equal_bits x v ≡ true → x ≡ v
-same_true true true e = refl
-same_true true false e = sym e
-same_true false true e = e
-same_true false false e = refl
+equal_only_if : (x v : Bool) → equal_bits x v ≡ true → x ≡ v
+equal_only_if true true e = refl
+equal_only_if true false e = sym e
+equal_only_if false true e = e
+equal_only_if false false e = refl
 
 -- where a is not what makes the output v, it is v with the other bit too
 no_part : (x y v : Bool) → (equal_bits x v && not (equal_bits y v)) ≡ false → x ≡ v → y ≡ v
 no_part x y v e is = elim (and_cases (equal_bits x v) (not (equal_bits y v)) e) [
-  | inl q ↦ absurd (both_ways (equal_bits x v) q (same_refl x v is))
-  | inr q ↦ same_true y v (not-false (equal_bits y v) q)
+  | inl q ↦ absurd (both_ways (equal_bits x v) q (equal_if x v is))
+  | inr q ↦ equal_only_if y v (not-false (equal_bits y v) q)
 ]
 
 does_not_make : (f : Bool → Bool → Bool) (a v y : Bool) → makes f a v ≡ false → f a y ≡ v → f (not a) y ≡ v

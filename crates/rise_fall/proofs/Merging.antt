@@ -78,7 +78,8 @@ module _ (g h : Gate) (table : g.table ≡ h.table) (a b : ℕ) (S T X Y : Stabl
       let one = λ (z : Bool).
       cond_moved (has_arc f z v) (S.until z) (longest_still S T) (X.until z) (longest_still X Y) (sx z) high in
       let two = λ (z : Bool).
-      cond_moved (has_arc (swapped f) z v) (T.until z) (longest_still S T) (Y.until z) (longest_still X Y) (ty z) high in
+      cond_moved (has_arc (swapped f) z v) (T.until z) (longest_still S T) (Y.until z) (longest_still X Y) (ty z)
+      high in
       rw table (omega (arith, one true, one false, two true, two false))
 
 -- a buffer of its first input has each bit no later than that bit is seen there, and for no less

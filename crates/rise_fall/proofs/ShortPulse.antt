@@ -142,7 +142,8 @@ second_within t = elim (cases_eq t 21) [
   | inr e ↦ rw (ne_eqb t 21 e) (omega arith, cond_more (first (t - 1)) 2 7 2 (omega arith) (omega arith))
 ]
 
--- a gate with one signal and the same bounds at both inputs may show what its table makes of that signal some time ago
+-- a gate with one signal and one set of bounds at both inputs may show what its table makes of that signal some time
+-- ago
 follows_one : (g : Gate) (b : Bounds) (x : Wave) (t d : ℕ) → b.least (x (t - 1)) ≤ d → d ≤ b.greatest (x (t - 1)) →
     RiseFallFollows g (both b) (ago (λ i. x 0) x t) (ago (λ i. x 0) x t) (output g.table (x (t - d)) (x (t - d)))
 follows_one g b x t d low high = record {

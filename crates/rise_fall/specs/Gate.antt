@@ -50,9 +50,10 @@ pub record RiseFallFollows (g : Gate) (d : GateBounds) (one two : ℕ → Bool) 
   pub is : out ≡ output g.table bit_one bit_two
 
 -- The waves that a circuit can have whose gates have the bounds d, in place of the two of each input in their records:
--- at every moment every gate follows its inputs, with delays of that moment. What was before moment 0 is free, one past
--- for each signal: so the start is as free as with two bounds, where nothing is said of a gate before its greatest
--- delays have passed, and each moment still has a last transition, or none
+-- from moment 0 on every gate follows its inputs at every moment, with delays of that moment. What signals were before
+-- moment 0 is free, whatever gates were there: one past for each signal. With two bounds nothing is said of a gate
+-- before its greatest delays have passed, and none of its times lies there. Here one may, where a transition's own
+-- greatest delay is the smaller one, so something has to be said
 abbrev pub RiseFallMoves : Circuit → (ℕ → GateBounds) → (ℕ → Wave) → Type 0
 RiseFallMoves c d w =
     (past : ℕ → Wave)

@@ -9,7 +9,7 @@ use Rattle.rise_fall.specs.Gate.{Bounds, GateBounds, RiseFallMoves}
 use Rattle.rise_fall.specs.Times.{Stable, merged}
 use Rattle.rise_fall.specs.Promise.{sources_in, SumsKept, RiseFallRun}
 
--- a gate with the same bounds at both inputs
+-- one set of bounds at both inputs of a gate
 abbrev pub both : Bounds → GateBounds
 both b = record { one = b; two = b }
 
@@ -71,8 +71,10 @@ abbrev pub GoesWrongAt : Board → (ℕ → GateBounds) → (r : ℕ) → Type 0
 GoesWrongAt m d r = (x : Trace) × RiseFallRun m d x × ((n : ℕ) × (x.holds n r ≢ reference m x.start x.outside n r))
 
 -- By each transition's own bounds alone the board is passed, and register 1 goes wrong. The least delays of each gate
--- are equal here, so it is its latest times that fail: the first buffer's output rises at moment 18 and falls at 20,
--- and at 21 the second one, which should show the rise for 2 moments by then, still shows what was before it
+-- are equal here, so it is latest times that fail. Register 0 rises at moment 9 and falls at 18. The first buffer
+-- shows the rise from moment 18 on only, and the fall from 20 on. At 21, at its clock, register 1 takes what the
+-- second buffer shows: its input has fallen last, so it may show what that was 7 moments ago, which was before the
+-- rise
 abbrev pub OwnBoundsFail : Type 0
 OwnBoundsFail = PassedByOwnBounds short_pulse pulse_bounds × GoesWrongAt short_pulse pulse_bounds 1
 

@@ -14,7 +14,7 @@ pub record BoundsInGate (d : GateBounds) (g : Gate) : Type 0 where
   pub one_within : (b : Bool) → (g.least_one ≤ d.one.least b) × (d.one.greatest b ≤ g.greatest_one)
   pub two_within : (b : Bool) → (g.least_two ≤ d.two.least b) × (d.two.greatest b ≤ g.greatest_two)
 
--- the same of every gate of a circuit
+-- and so for every gate of a circuit
 abbrev pub BoundsInCircuit : (ℕ → GateBounds) → Circuit → Type 0
 BoundsInCircuit d c = (k : ℕ) → k < length c.gates → BoundsInGate (d k) (gate c k)
 
