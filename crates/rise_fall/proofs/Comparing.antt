@@ -20,7 +20,7 @@ use Rattle.rise_fall.specs.Promise.{sources_in, stable_in, SetupKept, HoldKept}
 use Rattle.rise_fall.specs.Times.{longest, Stable, delay_late, from_by, until_by, delayed, has_arc, gate_stable}
 use Rattle.rise_fall.specs.Times.{stable}
 use Rattle.rise_fall.specs.Within.{BoundsWithin, GateBoundsWithin, RiseFallWithin, SetupNarrower, HoldNarrower}
-use Rattle.rise_fall.specs.Within.{RiseFallNarrower, with_period, SetupSlower, RiseFallSlower}
+use Rattle.rise_fall.specs.Within.{RiseFallNarrower, with_period, TimesSlower, SetupSlower, RiseFallSlower}
 use Rattle.rise_fall.proofs.Keeping.{stable_source, stable_gate}
 use Rattle.rise_fall.proofs.Merging.{merged_from, merged_until}
 use Rattle.rise_fall.proofs.Times.{late_at, late_below, late_some}
@@ -418,6 +418,15 @@ slower_within m d p f longer = record {
   tables_same = λ k h. refl;
   bounds_within = λ k h. all_within_self (d k);
 }
+
+pub times_slower : TimesSlower
+times_slower m d p formed n k h b =
+    let new = with_period m (m.period + p) in
+    let i = inside new m d d (slower_within m d (m.period + p) formed (omega arith)) formed n k h in
+    let e : m.period + p - m.period ≡ p = omega arith in
+    let begins = rw e at (i.begins b) in
+    let ends = rw e at (i.ends b) in
+    (omega arith, omega arith)
 
 pub setup_slower : SetupSlower
 setup_slower m d p formed longer n r h kept =

@@ -1,6 +1,6 @@
 -- Narrower bounds and longer periods.
-use Rattle.std.specs.Prelude.{◌≡◌, ℕ, ◌<◌, ◌≤◌, Bool, length}
-use Rattle.circuit.specs.Circuit.{gate}
+use Rattle.std.specs.Prelude.{◌≡◌, ℕ, suc, ◌+◌, ◌*◌, ◌<◌, ◌≤◌, Bool, length}
+use Rattle.circuit.specs.Circuit.{gate, signals}
 use Rattle.board.specs.Board.{Board, Formed}
 use Rattle.board.specs.Promise.{Within}
 use Rattle.rise_fall.specs.Gate.{Bounds, GateBounds}
@@ -44,6 +44,16 @@ RiseFallNarrower =
 -- a board with another period
 abbrev pub with_period : Board → ℕ → Board
 with_period m p = record m { period = p }
+
+-- With a period that is longer by p no latest time grows, counted from the cycle's beginning, and no earliest time
+-- falls, counted from its end. So each setup slack grows by p at least, and where it is M with a period, no period
+-- that is shorter by more than M is long enough. How much more it grows has no such bound, as an input that is stable
+-- for longer may have come through by the smaller delay: a shortest period is to be searched for
+abbrev pub TimesSlower : Type 0
+TimesSlower =
+    (m : Board) (d : ℕ → GateBounds) (p : ℕ) → Formed m → (n k : ℕ) → k < signals m.circuit → (b : Bool) →
+    ((stable_in (with_period m (m.period + p)) d n k).from b ≤ n * p + (stable_in m d n k).from b)
+    × (suc n * p + (stable_in m d n k).until b ≤ (stable_in (with_period m (m.period + p)) d n k).until b)
 
 -- each setup sum that is right with a period is so with every longer one: the periods that are long enough are all
 -- those from a shortest one on

@@ -6,7 +6,8 @@ ghost use Rattle.rise_fall.specs.Times.{EitherReading, RiseFallWindow};
 ghost use Rattle.rise_fall.specs.Promise.{RiseFallPromise, RiseFallInWindow, RiseFallCanGo};
 ghost use Rattle.rise_fall.specs.Paths.{RiseFallLatestIs, RiseFallEarliestIs};
 ghost use Rattle.rise_fall.specs.Widest.{MovesWithin, NoWorseThanWidest, WidestPass, EqualBoundsPassMore};
-ghost use Rattle.rise_fall.specs.Within.{SetupNarrower, HoldNarrower, RiseFallNarrower, SetupSlower, RiseFallSlower};
+ghost use Rattle.rise_fall.specs.Within.{SetupNarrower, HoldNarrower, RiseFallNarrower};
+ghost use Rattle.rise_fall.specs.Within.{TimesSlower, SetupSlower, RiseFallSlower};
 ghost use Rattle.rise_fall.specs.Cycles.{RiseFallTwoCycles, RiseFallOneCycle, RiseFallFewerTakes};
 ghost use Rattle.rise_fall.specs.Weaker.{OwnBoundsFail, LengthMatters, ZeroIsOne};
 
@@ -104,6 +105,13 @@ pub fn hold_narrower() -> u8
 /// What is passed is so with narrower bounds and a longer period.
 pub fn narrower() -> u8
     ensures { RiseFallNarrower }
+{
+    0
+}
+
+/// With a longer period no latest time grows, counted from the cycle's beginning, and no earliest falls, from its end.
+pub fn times_slower() -> u8
+    ensures { TimesSlower }
 {
     0
 }
