@@ -1,25 +1,29 @@
--- Times with directions over sources and bounds within others.
-use Rattle.std.proofs.Common.{◌≡◌, ℕ, zero, suc, ◌+◌, ◌-◌, ◌*◌, ◌<◌, ◌≤◌, Bool, true, false, cond, min, max, leb}
-use Rattle.std.proofs.Common.{length, sym, refl, ap, ◌∙◌, inl, inr, arith}
+-- Times by transition over sources and bounds within others.
+use Rattle.std.proofs.Common.{◌≡◌, ℕ, suc, ◌+◌, ◌-◌, ◌<◌, ◌≤◌, Bool, true, false, cond, min, max, leb, length, sym}
+use Rattle.std.proofs.Common.{refl, ◌∙◌, inl, inr, arith, zero, ◌*◌, ap}
 use Rattle.std.proofs.Math.Nat.{mul-add}
-use Rattle.std.proofs.lemmas.Bool.{cases_lt, cases_Bool, le-leb, lt-leb, cond-true, cond-false}
-use Rattle.circuit.specs.Gate.{output}
-use Rattle.circuit.specs.declared.gate.Gate.{Gate}
-use Rattle.circuit.specs.Circuit.{Circuit, gate, signals, Sound}
+use Rattle.std.proofs.lemmas.Bool.{cases_lt, cases_Bool, cond-true, cond-false, le-leb, lt-leb}
 use Rattle.circuit.proofs.Signals.{each_signal}
-use Rattle.board.specs.Board.{Board, Formed, since, still_until, launch_cycle, until_cycle}
-use Rattle.board.specs.Promise.{with_schedule}
-use Rattle.rise_fall.specs.RiseFall.{Bounds, GateBounds, shortest, longest, Stable, delay_late, from_by, until_by}
-use Rattle.rise_fall.specs.RiseFall.{has_arc, swapped, larger, soonest, longest_still, gate_stable, stable}
-use Rattle.rise_fall.specs.Promise.{stable_in}
-use Rattle.rise_fall.specs.Paths.{BoundsWithin, GateBoundsWithin, RiseFallNarrower}
-use Rattle.rise_fall.specs.More.{RiseFallKeptIn, RiseFallTwoCycles, RiseFallFewerTakes}
+use Rattle.circuit.specs.Circuit.{Circuit, gate, signals, Sound}
+use Rattle.circuit.specs.declared.gate.Gate.{Gate}
 use Rattle.board.proofs.Comparing.{times_more, since_less, until_more, since_in, until_in, narrower_since}
-use Rattle.board.proofs.Comparing.{narrower_until}
+use Rattle.board.proofs.Comparing.{narrower_until, within_self}
 use Rattle.board.proofs.Cycles.{repeats_at, launch_on, launch_later, until_on, takes_later, since_first, still_first}
+use Rattle.board.proofs.Going.{sources}
+use Rattle.board.proofs.Keeping.{launch_anew, until_next}
+use Rattle.board.specs.Board.{Board, since, still_until, Formed, launch_cycle, until_cycle}
+use Rattle.board.specs.Promise.{with_schedule}
+use Rattle.rise_fall.specs.Cycles.{RiseFallKeptIn, RiseFallTwoCycles, RiseFallOneCycle, RiseFallFewerTakes}
+use Rattle.rise_fall.specs.Gate.{Bounds, GateBounds}
 use Rattle.rise_fall.specs.Paths.{side}
-use Rattle.rise_fall.proofs.Times.{late_at, late_below, late_some}
+use Rattle.rise_fall.specs.Promise.{sources_in, stable_in, SetupKept, HoldKept}
+use Rattle.rise_fall.specs.Times.{longest, Stable, delay_late, from_by, until_by, delayed, has_arc, gate_stable}
+use Rattle.rise_fall.specs.Times.{stable}
+use Rattle.rise_fall.specs.Within.{BoundsWithin, GateBoundsWithin, RiseFallWithin, SetupNarrower, HoldNarrower}
+use Rattle.rise_fall.specs.Within.{RiseFallNarrower, with_period, TimesSlower, SetupSlower, RiseFallSlower}
 use Rattle.rise_fall.proofs.Keeping.{stable_source, stable_gate}
+use Rattle.rise_fall.proofs.Merging.{merged_from, merged_until}
+use Rattle.rise_fall.proofs.Times.{late_at, late_below, late_some}
 
 -- S is stable no later than T and for no less, where S is moved by a and T by b at the beginning, by x and y at the
 -- end, which is not moved less
@@ -68,38 +72,15 @@ module _ (a b x y : ℕ) (order : b + x ≤ y + a) where
   unfolding until_by
   until_inside d e S T within i v = omega (arith, within.least_within true, within.least_within false, i.ends v)
 
-  cond_inside : (p q : ℕ) (t : Bool) (i j u v : ℕ) → p + i ≤ q + u → p + j ≤ q + v → p + cond t i j ≤ q + cond t u v
-  cond_inside p q true i j u v h k = h
-  cond_inside p q false i j u v h k = k
-
   gate_inside : (g h : Gate) → g.table ≡ h.table → (d e : GateBounds) (S T X Y : Stable) → GateBoundsWithin d e →
       Inside a b x y S X → Inside a b x y T Y →
       Inside a b x y (gate_stable d g S T) (gate_stable e h X Y)
-  unfolding gate_stable soonest longest_still
-  gate_inside g h equal_bits d e S T X Y within sx ty =
-      let lx = λ (v : Bool). from_inside d.one e.one S X within.one_within sx v in
-      let ly = λ (v : Bool). from_inside d.two e.two T Y within.two_within ty v in
-      let ex = λ (v : Bool). until_inside d.one e.one S X within.one_within sx v in
-      let ey = λ (v : Bool). until_inside d.two e.two T Y within.two_within ty v in
-      let low : a + soonest d S T ≤ b + soonest e X Y = omega (arith, lx true, lx false, ly true, ly false) in
-      let high : y + longest_still e X Y ≤ x + longest_still d S T = omega
-      (arith, ex true, ex false, ey true, ey false) in
-      rw equal_bits (record {
-        begins = λ v.
-            let f = output h.table in
-            let fx = λ (z : Bool). cond_inside a b (has_arc f z v) (from_by d.one S z) (soonest d S T)
-            (from_by e.one X z) (soonest e X Y) (lx z) low in
-            let fy = λ (z : Bool). cond_inside a b (has_arc (swapped f) z v) (from_by d.two T z) (soonest d S T)
-            (from_by e.two Y z) (soonest e X Y) (ly z) low in
-            omega (arith, fx true, fx false, fy true, fy false);
-        ends = λ v.
-            let f = output h.table in
-            let fx = λ (z : Bool). cond_inside y x (has_arc f z v) (until_by e.one X z) (longest_still e X Y)
-            (until_by d.one S z) (longest_still d S T) (ex z) high in
-            let fy = λ (z : Bool). cond_inside y x (has_arc (swapped f) z v) (until_by e.two Y z) (longest_still e X Y)
-            (until_by d.two T z) (longest_still d S T) (ey z) high in
-            omega (arith, fx true, fx false, fy true, fy false);
-      })
+  gate_inside g h table d e S T X Y within sx ty = record {
+    begins = merged_from g h table a b (delayed d.one S) (delayed d.two T) (delayed e.one X) (delayed e.two Y)
+        (from_inside d.one e.one S X within.one_within sx) (from_inside d.two e.two T Y within.two_within ty);
+    ends = merged_until h g (sym table) y x (delayed e.one X) (delayed e.two Y) (delayed d.one S) (delayed d.two T)
+        (until_inside d.one e.one S X within.one_within sx) (until_inside d.two e.two T Y within.two_within ty);
+  }
 
   -- every signal
   pub stable_inside : (new old : Circuit) → Sound new → Sound old → new.inputs ≡ old.inputs →
@@ -126,19 +107,19 @@ all_within_self d = record {
   two_within = record { least_within = λ b. omega arith; greatest_within = λ b. omega arith };
 }
 
--- the same board and bounds, other cycles or another schedule
+-- one board and its bounds, in other cycles or by another schedule
 module _ (c : Circuit) (sound : Sound c) (d : ℕ → GateBounds) (a b x y : ℕ) (order : b + x ≤ y + a) (s u : ℕ → Stable)
     (sources : (i : ℕ) → i < c.inputs → Inside a b x y (s i) (u i)) where
   pub stable_moved : (k : ℕ) → k < signals c → Inside a b x y (stable c d s k) (stable c d u k)
   stable_moved = stable_inside a b x y order c c sound sound refl refl (λ k h. (refl, refl, refl)) d d
       (λ k h. all_within_self (d k)) s u sources
 
-pub rise_fall_as_in : (m : Board) (d : ℕ → GateBounds) (a b : ℕ) → Formed m →
+pub kept_as_in : (m : Board) (d : ℕ → GateBounds) (a b : ℕ) → Formed m →
     ((r : ℕ) → r < m.registers → m.takes_at r b ≡ true → m.takes_at r a ≡ true) →
     ((r : ℕ) → r < m.registers → a + launch_cycle m r b ≤ b + launch_cycle m r a) →
     ((r : ℕ) → r < m.registers → b + until_cycle m r a ≤ a + until_cycle m r b) → RiseFallKeptIn m d a →
     RiseFallKeptIn m d b
-rise_fall_as_in m d a b formed takers begins ending kept = record {
+kept_as_in m d a b formed takers begins ending kept = record {
   setup_kept = λ r h e v.
       let i = inside (m.takes r) (formed.taken r h) in
       let p = suc_times a m.period in
@@ -157,31 +138,9 @@ rise_fall_as_in m d a b formed takers begins ending kept = record {
     inside : (k : ℕ) → k < signals m.circuit →
         Inside (a * m.period) (b * m.period) (a * m.period) (b * m.period) (stable_in m d b k) (stable_in m d a k)
     inside = stable_moved m.circuit formed.sound d (a * m.period) (b * m.period) (a * m.period) (b * m.period)
-        (omega arith) (λ i. record { from = λ v. since m b i; until = λ v. still_until m b i })
-        (λ i. record { from = λ v. since m a i; until = λ v. still_until m a i })
+        (omega arith) (sources_in m b)
+        (sources_in m a)
         (λ i h. record { begins = λ v. since_in m a b begins i; ends = λ v. until_in m a b ending i })
-
--- how long a gate is stable depends only on how long its inputs are
-untils : (g : Gate) (d : GateBounds) (S T S' T' : Stable) (z a : ℕ) → ((v : Bool) → z + T.until v ≤ a + S.until v) →
-    ((v : Bool) → z + T'.until v ≤ a + S'.until v) →
-    (v : Bool) → z + (gate_stable d g T T').until v ≤ a + (gate_stable d g S S').until v
-unfolding gate_stable longest_still until_by
-untils g d S T S' T' z a p q v =
-    let f = output g.table in
-    let pt = p true in
-    let pf = p false in
-    let qt = q true in
-    let qf = q false in
-    let top = max (larger (λ (b : Bool). T.until b + shortest d.one))
-    (larger (λ (b : Bool). T'.until b + shortest d.two)) in
-    let above = max (larger (λ (b : Bool). S.until b + shortest d.one))
-    (larger (λ (b : Bool). S'.until b + shortest d.two)) in
-    let high : z + top ≤ a + above = omega arith in
-    let fx = λ (b : Bool). cond_inside 0 0 0 0 (omega arith) z a (has_arc f b v) (T.until b + shortest d.one) top
-    (S.until b + shortest d.one) above (omega (arith, p b)) high in
-    let fy = λ (b : Bool). cond_inside 0 0 0 0 (omega arith) z a (has_arc (swapped f) b v)
-    (T'.until b + shortest d.two) top (S'.until b + shortest d.two) above (omega (arith, q b)) high in
-    omega (arith, fx true, fx false, fy true, fy false)
 
 -- S is stable no later than one of T and U, moved by x and y from a, and for no less than either
 record Between (a x y : ℕ) (S T U : Stable) : Type 0 where
@@ -237,25 +196,17 @@ module _ (a x y : ℕ) where
     where
       gate_between : (g : Gate) (d : GateBounds) (S T U S' T' U' : Stable) → Between a x y S T U →
           Between a x y S' T' U' → Between a x y (gate_stable d g S S') (gate_stable d g T T') (gate_stable d g U U')
-      gate_between g d S T U S' T' U' p q =
-          let one = gate_inside' g d S T S' T' x (λ v. p.first v) (λ v. q.first v) in
-          let two = gate_inside' g d S U S' U' y (λ v. p.second v) (λ v. q.second v) in
-          record {
-            begins = λ v. begins_by g d S T U S' T' U' p q v (late_some g d S S' v).0 (late_some g d S S' v).1
-                (late_some g d S S' v).2 (late_some g d S S' v).3;
-            first = one;
-            second = two;
-          }
+      gate_between g d S T U S' T' U' p q = record {
+        begins = λ v. let l = late_some g d S S' v in begins_by g d S T U S' T' U' p q v l.0 l.1 l.2 l.3;
+        first = merged_until g g refl x a (delayed d.one T) (delayed d.two T') (delayed d.one S) (delayed d.two S')
+            (λ v. later d.one T S x v (p.first v)) (λ v. later d.two T' S' x v (q.first v));
+        second = merged_until g g refl y a (delayed d.one U) (delayed d.two U') (delayed d.one S) (delayed d.two S')
+            (λ v. later d.one U S y v (p.second v)) (λ v. later d.two U' S' y v (q.second v));
+      }
         where
-          until_only : (g : Gate) (d : GateBounds) (S T S' T' : Stable) (z : ℕ) →
-              ((v : Bool) → z + T.until v ≤ a + S.until v) → ((v : Bool) → z + T'.until v ≤ a + S'.until v) →
-              (v : Bool) → z + (gate_stable d g T T').until v ≤ a + (gate_stable d g S S').until v
-          until_only g d S T S' T' z p q v = untils g d S T S' T' z a p q v
-
-          gate_inside' : (g : Gate) (d : GateBounds) (S T S' T' : Stable) (z : ℕ) →
-              ((v : Bool) → z + T.until v ≤ a + S.until v) → ((v : Bool) → z + T'.until v ≤ a + S'.until v) →
-              (v : Bool) → z + (gate_stable d g T T').until v ≤ a + (gate_stable d g S S').until v
-          gate_inside' g d S T S' T' z p q v = until_only g d S T S' T' z p q v
+          later : (d : Bounds) (T S : Stable) (z : ℕ) (v : Bool) → z + T.until v ≤ a + S.until v →
+              z + until_by d T v ≤ a + until_by d S v
+          later d T S z v h = unfold until_by in omega arith
 
           begins_by : (g : Gate) (d : GateBounds) (S T U S' T' U' : Stable) → Between a x y S T U →
               Between a x y S' T' U' → (v : Bool) (second b : Bool) → has_arc (side second g) b v ≡ true →
@@ -277,8 +228,8 @@ module _ (a x y : ℕ) where
                 late_below g d U U' v false b r,
               )
 
-pub rise_fall_two_cycles : RiseFallTwoCycles
-rise_fall_two_cycles m d mark marked formed third fourth = record {
+pub two_cycles : RiseFallTwoCycles
+two_cycles m d mark marked formed third fourth = record {
   formed = formed;
   setup_kept = λ n r h e b. (each n).setup_kept r h e b;
   hold_kept = λ n r h e b. (each n).hold_kept r h e b;
@@ -287,9 +238,9 @@ rise_fall_two_cycles m d mark marked formed third fourth = record {
     from_zero : (k : ℕ) → k < signals m.circuit →
         Between (4 * m.period) m.period 0 (stable_in m d 0 k) (stable_in m d 3 k) (stable_in m d 4 k)
     from_zero = stable_between (4 * m.period) m.period 0 m.circuit formed.sound d
-        (λ i. record { from = λ v. since m 0 i; until = λ v. still_until m 0 i })
-        (λ i. record { from = λ v. since m 3 i; until = λ v. still_until m 3 i })
-        (λ i. record { from = λ v. since m 4 i; until = λ v. still_until m 4 i })
+        (sources_in m 0)
+        (sources_in m 3)
+        (sources_in m 4)
         (λ i h. record {
           begins = λ v. omega (arith, since_first m mark marked i);
           first = λ v. omega (arith, still_first m mark marked 3 i);
@@ -312,11 +263,11 @@ rise_fall_two_cycles m d mark marked formed third fourth = record {
     }
 
     back : (n : ℕ) → 1 ≤ n → RiseFallKeptIn m d (suc (suc n)) → RiseFallKeptIn m d n
-    back n h = rise_fall_as_in m d (suc (suc n)) n formed (λ r q e. repeats_at m mark marked r n h ∙ e)
+    back n h = kept_as_in m d (suc (suc n)) n formed (λ r q e. repeats_at m mark marked r n h ∙ e)
         (λ r q. omega (arith, launch_on m mark marked r n h)) (λ r q. omega (arith, until_on m mark marked r n h))
 
     on : (n : ℕ) → 3 ≤ n → RiseFallKeptIn m d n → RiseFallKeptIn m d (suc (suc n))
-    on n h = rise_fall_as_in m d n (suc (suc n)) formed (λ r q e. sym (repeats_at m mark marked r n (omega arith)) ∙ e)
+    on n h = kept_as_in m d n (suc (suc n)) formed (λ r q e. sym (repeats_at m mark marked r n (omega arith)) ∙ e)
         (λ r q. omega (arith, launch_later m mark marked r n h))
         (λ r q. omega (arith, until_on m mark marked r n (omega arith)))
 
@@ -328,8 +279,24 @@ rise_fall_two_cycles m d mark marked formed third fourth = record {
     each (suc (suc (suc (suc zero)))) = fourth
     each (suc (suc (suc (suc (suc n))))) = on (suc (suc (suc n))) (omega arith) (each (suc (suc (suc n))))
 
-pub rise_fall_fewer_takes : RiseFallFewerTakes
-rise_fall_fewer_takes m d more sub passed =
+-- cycles in which all registers take are alike
+pub one_cycle : RiseFallOneCycle
+one_cycle m d always formed kept = record {
+  formed = formed;
+  setup_kept = λ n r h e. (each n).setup_kept r h e;
+  hold_kept = λ n r h e. (each n).hold_kept r h e;
+}
+  where
+    begins : (r n : ℕ) → launch_cycle m r n ≡ n
+    begins r zero = unfold launch_cycle in refl
+    begins r (suc n) = launch_anew m r n (always r n)
+
+    each : (n : ℕ) → RiseFallKeptIn m d n
+    each n = kept_as_in m d 0 n formed (λ r h e. always r 0) (λ r h. omega (arith, begins r n, begins r 0))
+        (λ r h. omega (arith, until_next m r n (always r n), until_next m r 0 (always r 0))) kept
+
+pub fewer_takes : RiseFallFewerTakes
+fewer_takes m d more sub passed =
     let f = passed.formed in
     record {
       formed = record {
@@ -349,7 +316,7 @@ rise_fall_fewer_takes m d more sub passed =
     inside : (n k : ℕ) → k < signals m.circuit →
         Inside 0 0 0 0 (stable_in m d n k) (stable_in (with_schedule m more) d n k)
     inside n = stable_moved m.circuit passed.formed.sound d 0 0 0 0 (omega arith)
-        (λ i. record { from = λ v. since m n i; until = λ v. still_until m n i })
+        (sources_in m n)
         (λ i. record {
           from = λ v. since (with_schedule m more) n i;
           until = λ v. still_until (with_schedule m more) n i;
@@ -359,47 +326,112 @@ rise_fall_fewer_takes m d more sub passed =
           ends = λ v. omega (arith, until_more m more sub n i);
         })
 
-pub rise_fall_narrower : RiseFallNarrower
-rise_fall_narrower new old d e v passed =
+-- narrower bounds and a longer period: a cycle's windows begin no later, counted from its beginning, and end no
+-- sooner, counted from its end
+module _ (new old : Board) (d e : ℕ → GateBounds) (v : RiseFallWithin new old d e) (formed : Formed old) where
+  longer : (n : ℕ) → n * new.period ≡ n * old.period + n * (new.period - old.period)
+  longer n =
+      let f : new.period ≡ old.period + (new.period - old.period) = omega (arith, v.board_within.period_within) in
+      ap (λ (x : ℕ). n * x) f ∙ mul-add n old.period (new.period - old.period)
+
+  inside : (n k : ℕ) → k < signals old.circuit →
+      Inside 0 (n * (new.period - old.period)) 0 (suc n * (new.period - old.period)) (stable_in new d n k)
+      (stable_in old e n k)
+  inside n = let w = v.board_within in
+      stable_inside 0 (n * (new.period - old.period)) 0 (suc n * (new.period - old.period))
+      (omega (arith, times_more n (suc n) (new.period - old.period) (omega arith)))
+      new.circuit old.circuit w.formed.sound formed.sound
+      w.circuit_within.inputs_same w.circuit_within.gates_same
+      (λ k h. let g = w.circuit_within.gates_within k h in
+      (g.one_same, g.two_same, v.tables_same k h)) d e v.bounds_within
+      (sources_in new n)
+      (sources_in old n)
+      (λ i h. record {
+        begins = λ b. omega (arith, narrower_since new old w n i h);
+        ends = λ b. omega (arith, narrower_until new old w n i h);
+      })
+
+  setup_within : (n r : ℕ) → r < old.registers → SetupKept old (stable_in old e n) n r →
+      SetupKept new (stable_in new d n) n r
+  setup_within n r h kept b =
+      let w = v.board_within in
+      let old_kept = kept b in
+      let i = (inside n (old.takes r) (formed.taken r h)).begins b in
+      rw (w.takes_same r h) (omega (
+        arith,
+        w.clock_within r h,
+        w.setup_within,
+        longer (suc n),
+        times_more n (suc n) (new.period - old.period) (omega arith),
+      ))
+
+  hold_within : (n r : ℕ) → r < old.registers → HoldKept old (stable_in old e n) n r →
+      HoldKept new (stable_in new d n) n r
+  hold_within n r h kept b =
+      let w = v.board_within in
+      let old_kept = kept b in
+      let i = (inside n (old.takes r) (formed.taken r h)).ends b in
+      rw (w.takes_same r h) (omega (arith, w.clock_within r h, w.hold_within, longer (suc n)))
+
+pub setup_narrower : SetupNarrower
+setup_narrower new old d e v formed n r h kept = setup_within new old d e v formed n r h kept
+
+pub hold_narrower : HoldNarrower
+hold_narrower new old d e v formed n r h kept = hold_within new old d e v formed n r h kept
+
+pub narrower : RiseFallNarrower
+narrower new old d e v passed =
     let w = v.board_within in
+    let in_old = λ (r : ℕ) (h : r < new.registers). let q : r < old.registers = omega (arith, w.registers_same) in q in
     record {
       formed = w.formed;
-      setup_kept = λ n r h t b.
-          let q : r < old.registers = omega (arith, w.registers_same) in
-          let old_kept = passed.setup_kept n r q (sym (w.schedule_same r n q) ∙ t) b in
-          let i = (inside n (old.takes r) (passed.formed.taken r q)).begins b in
-          rw (w.takes_same r q) (omega (
-            arith,
-            w.clock_within r q,
-            w.setup_within,
-            longer (suc n),
-            times_more n (suc n) (new.period - old.period) (omega arith),
-          ));
-      hold_kept = λ n r h t b.
-          let q : r < old.registers = omega (arith, w.registers_same) in
-          let old_kept = passed.hold_kept n r q (sym (w.schedule_same r n q) ∙ t) b in
-          let i = (inside n (old.takes r) (passed.formed.taken r q)).ends b in
-          rw (w.takes_same r q) (omega (arith, w.clock_within r q, w.hold_within, longer (suc n)));
+      setup_kept = λ n r h t. setup_narrower new old d e v passed.formed n r (in_old r h)
+          (passed.setup_kept n r (in_old r h) (sym (w.schedule_same r n (in_old r h)) ∙ t));
+      hold_kept = λ n r h t. hold_narrower new old d e v passed.formed n r (in_old r h)
+          (passed.hold_kept n r (in_old r h) (sym (w.schedule_same r n (in_old r h)) ∙ t));
     }
-  where
-    longer : (n : ℕ) → n * new.period ≡ n * old.period + n * (new.period - old.period)
-    longer n =
-        let f : new.period ≡ old.period + (new.period - old.period) = omega (arith, v.board_within.period_within) in
-        ap (λ (x : ℕ). n * x) f ∙ mul-add n old.period (new.period - old.period)
 
-    inside : (n k : ℕ) → k < signals old.circuit →
-        Inside 0 (n * (new.period - old.period)) 0 (suc n * (new.period - old.period)) (stable_in new d n k)
-        (stable_in old e n k)
-    inside n = let w = v.board_within in
-        stable_inside 0 (n * (new.period - old.period)) 0 (suc n * (new.period - old.period))
-        (omega (arith, times_more n (suc n) (new.period - old.period) (omega arith)))
-        new.circuit old.circuit w.formed.sound passed.formed.sound
-        w.circuit_within.inputs_same w.circuit_within.gates_same
-        (λ k h. let g = w.circuit_within.gates_within k h in
-        (g.one_same, g.two_same, v.tables_same k h)) d e v.bounds_within
-        (λ i. record { from = λ b. since new n i; until = λ b. still_until new n i })
-        (λ i. record { from = λ b. since old n i; until = λ b. still_until old n i })
-        (λ i h. record {
-          begins = λ b. omega (arith, narrower_since new old w n i h);
-          ends = λ b. omega (arith, narrower_until new old w n i h);
-        })
+-- a longer period alone
+slower_within : (m : Board) (d : ℕ → GateBounds) (p : ℕ) → Formed m → m.period ≤ p →
+    RiseFallWithin (with_period m p) m d d
+slower_within m d p f longer = record {
+  board_within = record {
+    registers_same = refl;
+    circuit_within = within_self m.circuit;
+    formed = record {
+      sources = f.sources;
+      sound = f.sound;
+      taken = f.taken;
+      clocked = f.clocked;
+      inputs_ordered = f.inputs_ordered;
+      output_ordered = f.output_ordered;
+    };
+    takes_same = λ r h. refl;
+    schedule_same = λ r n h. refl;
+    clock_within = λ r h. (omega arith, omega arith);
+    inputs_within = λ i h q. (omega arith, omega arith);
+    output_within = (omega arith, omega arith);
+    setup_within = omega arith;
+    hold_within = omega arith;
+    period_within = longer;
+  };
+  tables_same = λ k h. refl;
+  bounds_within = λ k h. all_within_self (d k);
+}
+
+pub times_slower : TimesSlower
+times_slower m d p formed n k h b =
+    let new = with_period m (m.period + p) in
+    let i = inside new m d d (slower_within m d (m.period + p) formed (omega arith)) formed n k h in
+    let e : m.period + p - m.period ≡ p = omega arith in
+    let begins = rw e at (i.begins b) in
+    let ends = rw e at (i.ends b) in
+    (omega arith, omega arith)
+
+pub setup_slower : SetupSlower
+setup_slower m d p formed longer n r h kept =
+    setup_narrower (with_period m p) m d d (slower_within m d p formed longer) formed n r h kept
+
+pub slower : RiseFallSlower
+slower m d p longer passed =
+    narrower (with_period m p) m d d (slower_within m d p passed.formed longer) passed

@@ -1,53 +1,49 @@
--- Windows with delays by direction.
-use Rattle.std.proofs.Common.{◌≡◌, ℕ, suc, ◌+◌, ◌-◌, ◌<◌, ◌≤◌, ◌⊎◌, Bool, true, false, not, ◌&&◌, cond, min, max}
-use Rattle.std.proofs.Common.{leb, length, sym, refl, ap₂, subst, ◌∙◌, inl, inr, arith}
-use Rattle.std.proofs.lemmas.Bool.{cases_lt, cases_Bool, leb-true, le-ltb, cond-true, cond-false, cond_both, and_cases}
-use Rattle.std.proofs.lemmas.Bool.{or_parts, or_left, not-false, both_ways}
+-- Windows with delays by transition.
+use Rattle.std.proofs.Common.{◌≡◌, ℕ, suc, ◌+◌, ◌-◌, ◌<◌, ◌≤◌, Bool, true, false, not, ◌&&◌, cond, min, max, leb}
+use Rattle.std.proofs.Common.{length, sym, refl, ap₂, ◌∙◌, inl, inr, arith}
+use Rattle.std.proofs.lemmas.Bool.{cases_Bool, cond-true, cond_both, and_cases, or_parts, or_left, not-false}
+use Rattle.std.proofs.lemmas.Bool.{both_ways}
+use Rattle.circuit.proofs.Signals.{all_in, all_at, each_signal}
+use Rattle.circuit.specs.Circuit.{Circuit, gate, signals, Sound}
 use Rattle.circuit.specs.Gate.{output}
 use Rattle.circuit.specs.declared.gate.Gate.{Gate}
-use Rattle.circuit.specs.Circuit.{Circuit, gate, signals, Sound}
-use Rattle.circuit.proofs.Signals.{all_in, all_at, each_signal}
-use Rattle.drawing.specs.Drawing.{ideal}
 use Rattle.drawing.proofs.IdealLaws.{ideal_in, ideal_at}
-use Rattle.arrival.specs.declared.edge.Edge.TheVariants.{Late, Early}
+use Rattle.drawing.specs.Drawing.{ideal}
+use Rattle.arrival.proofs.ArrivalLaws.{arrival_in, arrival_at}
 use Rattle.arrival.specs.Arrival.{latest, earliest}
 use Rattle.arrival.specs.Window.{Wave}
-use Rattle.arrival.proofs.ArrivalLaws.{arrival_in, arrival_at}
-use Rattle.board.specs.Run.{Trace}
-use Rattle.board.specs.Board.{Board, reference, since, still_until}
-use Rattle.rise_fall.specs.RiseFall.{Bounds, GateBounds, longest, ago, LastTo, Sees, Stable, delay_late, from_by}
-use Rattle.rise_fall.specs.RiseFall.{until_by, equal_bits, makes, is_constant, has_arc, swapped, smaller, larger}
-use Rattle.rise_fall.specs.RiseFall.{soonest, longest_still, gate_stable, stable, RiseFallWindow, RiseFallMoves}
-use Rattle.rise_fall.specs.RiseFall.{BoundsInGate, NoWorseThanWidest, MovesWithin}
-use Rattle.rise_fall.specs.Promise.{stable_in, RiseFallPassed, RiseFallRun, RiseFallPromise, RiseFallInWindow}
-use Rattle.rise_fall.specs.Promise.{WidestPass}
+use Rattle.arrival.specs.declared.edge.Edge.TheVariants.{Late, Early}
+use Rattle.board.proofs.Going.{sources}
 use Rattle.board.proofs.Keeping.{Show, holds_reference, shows_reference}
+use Rattle.board.specs.Board.{Board, reference, since, still_until}
+use Rattle.board.specs.Run.{Trace}
+use Rattle.rise_fall.specs.Gate.{Bounds, GateBounds, ago, Sees, RiseFallMoves}
+use Rattle.rise_fall.specs.Promise.{sources_in, stable_in, RiseFallPassed, RiseFallRun, RiseFallPromise}
+use Rattle.rise_fall.specs.Promise.{RiseFallInWindow}
+use Rattle.rise_fall.specs.Times.{longest, Stable, delay_late, from_by, until_by, delayed, equal_bits, makes}
+use Rattle.rise_fall.specs.Times.{is_constant, has_arc, swapped, soonest, longest_still, merged, gate_stable, stable}
+use Rattle.rise_fall.specs.Times.{RiseFallWindow}
+use Rattle.rise_fall.specs.Widest.{BoundsInGate, MovesWithin, NoWorseThanWidest, WidestPass}
+use Rattle.rise_fall.proofs.Merging.{merged_between}
+use Rattle.rise_fall.proofs.Seeing.{in_larger, in_smaller, either_bit, ago_is, seen_by}
 
-pub in_larger : (f : Bool → ℕ) (b : Bool) → f b ≤ larger f
-in_larger f true = omega arith
-in_larger f false = omega arith
+equal_if : (x v : Bool) → x ≡ v → equal_bits x v ≡ true
+equal_if true true e = refl
+equal_if true false e = sym e
+equal_if false true e = e
+equal_if false false e = refl
 
-pub in_smaller : (f : Bool → ℕ) (b : Bool) → smaller f ≤ f b
-in_smaller f true = omega arith
-in_smaller f false = omega arith
+equal_only_if : (x v : Bool) → equal_bits x v ≡ true → x ≡ v
+equal_only_if true true e = refl
+equal_only_if true false e = sym e
+equal_only_if false true e = e
+equal_only_if false false e = refl
 
-same_refl : (x v : Bool) → x ≡ v → equal_bits x v ≡ true
-same_refl true true e = refl
-same_refl true false e = sym e
-same_refl false true e = e
-same_refl false false e = refl
-
-same_true : (x v : Bool) → equal_bits x v ≡ true → x ≡ v
-same_true true true e = refl
-same_true true false e = sym e
-same_true false true e = e
-same_true false false e = refl
-
--- where a does not make v the other bit does as well
+-- where a is not what makes the output v, it is v with the other bit too
 no_part : (x y v : Bool) → (equal_bits x v && not (equal_bits y v)) ≡ false → x ≡ v → y ≡ v
 no_part x y v e is = elim (and_cases (equal_bits x v) (not (equal_bits y v)) e) [
-  | inl q ↦ absurd (both_ways (equal_bits x v) q (same_refl x v is))
-  | inr q ↦ same_true y v (not-false (equal_bits y v) q)
+  | inl q ↦ absurd (both_ways (equal_bits x v) q (equal_if x v is))
+  | inr q ↦ equal_only_if y v (not-false (equal_bits y v) q)
 ]
 
 does_not_make : (f : Bool → Bool → Bool) (a v y : Bool) → makes f a v ≡ false → f a y ≡ v → f (not a) y ≡ v
@@ -55,13 +51,7 @@ unfolding makes
 does_not_make f a v true e is = no_part (f a true) (f (not a) true) v (or_parts _ _ e).0 is
 does_not_make f a v false e is = no_part (f a false) (f (not a) false) v (or_parts _ _ e).1 is
 
-either_bit : (p a : Bool) → (p ≡ a) ⊎ (p ≡ not a)
-either_bit true true = inl refl
-either_bit true false = inr refl
-either_bit false true = inr refl
-either_bit false false = inl refl
-
--- a bit that is seen right where it has an arc serves as well as the right one
+-- a bit that is right wherever it has an arc gives the output that the right one gives
 serves : (f : Bool → Bool → Bool) (a v p y : Bool) → (has_arc f a v ≡ true → p ≡ a) → f a y ≡ v → f p y ≡ v
 unfolding has_arc
 serves f a v p y seen is = elim (either_bit p a) [
@@ -72,52 +62,12 @@ serves f a v p y seen is = elim (either_bit p a) [
   ]
 ]
 
--- the last change was to the bit that there was just before now
-last_is : (x : ℕ → Bool) (b : Bool) → LastTo x b → x 1 ≡ b
-last_is x b l = l.2 1 (omega arith) l.1
+-- what stands where there is no arc, of a gate whose inputs are seen through their delays
+abbrev pub soonest_at : GateBounds → Stable → Stable → ℕ
+soonest_at d x y = soonest (delayed d.one x) (delayed d.two y)
 
--- the signal's own moments
-pub ago_is : (past x : Wave) (t d : ℕ) → d ≤ t → ago past x t d ≡ x (t - d)
-unfolding ago
-ago_is past x t d h = cond-false _ _ _ (le-ltb t d h)
-
--- what is seen of an input that is stable of a is a
-pub seen_by : (past x : Wave) (a : Bool) (T : Stable) (b : Bounds) (t : ℕ) (p : Bool) →
-    ((u : ℕ) → T.from a ≤ u → u < T.until a → x u ≡ a) → Sees b (ago past x t) p →
-    from_by b T a ≤ t → t < until_by b T a → p ≡ a
-unfolding from_by delay_late until_by
-seen_by past x a T b t p shown sees start stop =
-    let v = sees.direction in
-    let d = sees.delay in
-    let l = sees.no_less in
-    let h = sees.no_more in
-    let m = in_larger b.greatest v in
-    let n = in_smaller b.least v in
-    elim (cases_lt t (T.from a + longest b)) [
-      | inr q ↦ sees.is ∙ ago_is past x t d (omega arith) ∙ shown (t - d) (omega arith) (omega arith)
-      | inl q ↦ elim (cases_Bool (leb (T.from a + longest b) (T.until a))) [
-        | inr e ↦ absurd (omega (
-          arith,
-          cond-false (leb (T.from a + longest b) (T.until a)) (min (longest b) (max 1 (b.greatest a))) (longest b) e,
-        ))
-        | inl e ↦
-            let long = leb-true (T.from a + longest b) (T.until a) e in
-            let short = cond-true (leb (T.from a + longest b) (T.until a)) (min (longest b) (max 1 (b.greatest a)))
-            (longest b) e in
-            let before : ago past x t 1 ≡ a = ago_is past x t 1 (omega arith)
-            ∙ shown (t - 1) (omega arith) (omega arith) in
-            elim sees.changed [
-              | inl s ↦
-                  let g : d ≤ b.greatest a = subst (λ z. d ≤ b.greatest z)
-                  (sym (last_is (ago past x t) v s) ∙ before) h in
-                  sees.is ∙ ago_is past x t d (omega arith) ∙ shown (t - d) (omega arith) (omega arith)
-              | inr s ↦ elim (cases_lt 0 d) [
-                | inl some ↦ sees.is ∙ s d (omega arith) ∙ before
-                | inr none ↦ sees.is ∙ ago_is past x t d (omega arith) ∙ shown (t - d) (omega arith) (omega arith)
-              ]
-            ]
-      ]
-    ]
+abbrev pub longest_still_at : GateBounds → Stable → Stable → ℕ
+longest_still_at d x y = longest_still (delayed d.one x) (delayed d.two y)
 
 -- one gate: the output is what the table makes of the inputs' bits a and b
 gate_right : (g : Gate) (d : GateBounds) (X Y : Stable) (px x py y : Wave) (a b : Bool) (t : ℕ) (p q : Bool) →
@@ -125,12 +75,12 @@ gate_right : (g : Gate) (d : GateBounds) (X Y : Stable) (px x py y : Wave) (a b 
     Sees d.one (ago px x t) p → Sees d.two (ago py y t) q →
     (gate_stable d g X Y).from (output g.table a b) ≤ t → t < (gate_stable d g X Y).until (output g.table a b) →
     output g.table p q ≡ output g.table a b
-unfolding gate_stable
+unfolding merged
 gate_right g d X Y px x py y a b t p q shown_x shown_y sees_x sees_y start stop =
     let f = output g.table in
     let v = f a b in
-    let top = longest_still d X Y in
-    let bot = soonest d X Y in
+    let top = longest_still_at d X Y in
+    let bot = soonest_at d X Y in
     let one : has_arc f a v ≡ true → p ≡ a = λ r.
     let l = in_larger (λ z. cond (has_arc f z v) (from_by d.one X z) bot) a in
     let m = in_smaller (λ z. cond (has_arc f z v) (until_by d.one X z) top) a in
@@ -158,8 +108,8 @@ module _ (c : Circuit) (d : ℕ → GateBounds) (sound : Sound c) (s : ℕ → S
   stable_gate k h = let n : c.inputs + k - c.inputs ≡ k = omega arith in
       rw n at (all_at (λ n. gate_stable (d (n - c.inputs))) c sound s k h)
 
-pub rise_fall_window : RiseFallWindow
-rise_fall_window c d w b s sound moves shown k t h a z = all_along k h t a z
+pub window : RiseFallWindow
+window c d w b s sound moves shown k t h a z = all_along k h t a z
   where
     all_along : (k : ℕ) → k < signals c → (t : ℕ) → (stable c d s k).from (ideal c b k) ≤ t →
         t < (stable c d s k).until (ideal c b k) → w k t ≡ ideal c b k
@@ -179,55 +129,35 @@ rise_fall_window c d w b s sound moves shown k t h a z = all_along k h t a z
         (rw (stable_gate c d sound s k h, is) at a) (rw (stable_gate c d sound s k h, is) at z)
         ∙ sym is)
 
--- through one input no worse than with the widest bounds
-from_less : (b : Bounds) (T : Stable) (a : Bool) (l m : ℕ) → ((v : Bool) → b.greatest v ≤ m) → T.from a ≤ l →
+-- an input is seen no later, and for no less, than by two bounds that its four lie within
+pub seen_from : (b : Bounds) (T : Stable) (a : Bool) (l m : ℕ) → ((v : Bool) → b.greatest v ≤ m) → T.from a ≤ l →
     from_by b T a ≤ l + m
 unfolding from_by delay_late
-from_less b T a l m most ls = cond_both (leb (T.from a + longest b) (T.until a))
+seen_from b T a l m most ls = cond_both (leb (T.from a + longest b) (T.until a))
     (min (longest b) (max 1 (b.greatest a))) (longest b) (λ z. T.from a + z ≤ l + m)
     (λ _. omega (arith, most true, most false)) (λ _. omega (arith, most true, most false))
 
-until_more : (b : Bounds) (T : Stable) (a : Bool) (l m : ℕ) → ((v : Bool) → m ≤ b.least v) → l ≤ T.until a →
+pub seen_until : (b : Bounds) (T : Stable) (a : Bool) (l m : ℕ) → ((v : Bool) → m ≤ b.least v) → l ≤ T.until a →
     l + m ≤ until_by b T a
 unfolding until_by
-until_more b T a l m most ls = omega (arith, most true, most false)
-
-cond_less : (b : Bool) (x y m : ℕ) → x ≤ m → y ≤ m → cond b x y ≤ m
-cond_less true x y m h k = h
-cond_less false x y m h k = k
-
-cond_more : (b : Bool) (x y m : ℕ) → m ≤ x → m ≤ y → m ≤ cond b x y
-cond_more true x y m h k = h
-cond_more false x y m h k = k
+seen_until b T a l m most ls = omega (arith, most true, most false)
 
 gate_better : (g : Gate) (d : GateBounds) (X Y : Stable) (v : Bool) (l m p q : ℕ) → BoundsInGate d g →
     ((b : Bool) → (X.from b ≤ l) × (p ≤ X.until b)) → ((b : Bool) → (Y.from b ≤ m) × (q ≤ Y.until b)) →
     ((gate_stable d g X Y).from v ≤ max (l + g.greatest_one) (m + g.greatest_two))
     × (min (p + g.least_one) (q + g.least_two) ≤ (gate_stable d g X Y).until v)
-unfolding gate_stable soonest longest_still
 gate_better g d X Y v l m p q within xs ys =
-    let lx : (a : Bool) → from_by d.one X a ≤ l + g.greatest_one = λ a. from_less d.one X a l g.greatest_one
-    (λ b. (within.one_within b).1) (xs a).0 in
-    let ly : (a : Bool) → from_by d.two Y a ≤ m + g.greatest_two = λ a. from_less d.two Y a m g.greatest_two
-    (λ b. (within.two_within b).1) (ys a).0 in
-    let ex : (a : Bool) → p + g.least_one ≤ until_by d.one X a = λ a. until_more d.one X a p g.least_one
-    (λ b. (within.one_within b).0) (xs a).1 in
-    let ey : (a : Bool) → q + g.least_two ≤ until_by d.two Y a = λ a. until_more d.two Y a q g.least_two
-    (λ b. (within.two_within b).0) (ys a).1 in
-    let f = output g.table in
-    let top = longest_still d X Y in
-    let bot = soonest d X Y in
     let wide = max (l + g.greatest_one) (m + g.greatest_two) in
     let low = min (p + g.least_one) (q + g.least_two) in
-    let under : bot ≤ wide = omega (arith, lx true) in
-    let over : low ≤ top = omega (arith, ex true) in
-    let cx = λ (a : Bool). cond_less (has_arc f a v) (from_by d.one X a) bot wide (omega (arith, lx a)) under in
-    let cy = λ (a : Bool). cond_less (has_arc (swapped f) a v) (from_by d.two Y a) bot wide
-    (omega (arith, ly a)) under in
-    let dx = λ (a : Bool). cond_more (has_arc f a v) (until_by d.one X a) top low (omega (arith, ex a)) over in
-    let dy = λ (a : Bool). cond_more (has_arc (swapped f) a v) (until_by d.two Y a) top low
-    (omega (arith, ey a)) over in
-    (omega (arith, cx true, cx false, cy true, cy false), omega (arith, dx true, dx false, dy true, dy false))
+    merged_between g (delayed d.one X) (delayed d.two Y) wide low
+    (λ a. let i = within.one_within in (
+      omega (arith, seen_from d.one X a l g.greatest_one (λ b. (i b).1) (xs a).0),
+      omega (arith, seen_until d.one X a p g.least_one (λ b. (i b).0) (xs a).1),
+    ))
+    (λ a. let i = within.two_within in (
+      omega (arith, seen_from d.two Y a m g.greatest_two (λ b. (i b).1) (ys a).0),
+      omega (arith, seen_until d.two Y a q g.least_two (λ b. (i b).0) (ys a).1),
+    )) v
 
 pub no_worse_than_widest : NoWorseThanWidest
 no_worse_than_widest c d sound within L E s sources = each_signal c sound
@@ -237,7 +167,7 @@ no_worse_than_widest c d sound within L E s sources = each_signal c sound
     (λ k h p q b. rw (stable_gate c d sound s k h, arrival_at Late c sound L k h, arrival_at Early c sound E k h)
     (gate_better (gate c k) (d k) _ _ b _ _ _ _ (within k h) p q))
 
--- what is seen is what was within the widest bounds ago
+-- what a gate sees is what its input was some time ago within its two bounds
 pub moves_within : MovesWithin
 moves_within c d w within moves k t h a z =
     let f = moves.1 k t h in
@@ -245,25 +175,24 @@ moves_within c d w within moves k t h a z =
     record {
       delay_one = f.sees_one.delay;
       delay_two = f.sees_two.delay;
-      one_least = omega (arith, f.sees_one.no_less, (i.one_within f.sees_one.direction).0);
-      one_greatest = omega (arith, f.sees_one.no_more, (i.one_within f.sees_one.direction).1);
-      two_least = omega (arith, f.sees_two.no_less, (i.two_within f.sees_two.direction).0);
-      two_greatest = omega (arith, f.sees_two.no_more, (i.two_within f.sees_two.direction).1);
+      one_least = omega (arith, f.sees_one.no_less, (i.one_within f.sees_one.transition).0);
+      one_greatest = omega (arith, f.sees_one.no_more, (i.one_within f.sees_one.transition).1);
+      two_least = omega (arith, f.sees_two.no_less, (i.two_within f.sees_two.transition).0);
+      two_greatest = omega (arith, f.sees_two.no_more, (i.two_within f.sees_two.transition).1);
       is = f.is ∙ ap₂ (output (gate c k).table)
           (f.sees_one.is ∙ ago_is _ _ t f.sees_one.delay
-          (omega (arith, f.sees_one.no_more, (i.one_within f.sees_one.direction).1)))
+          (omega (arith, f.sees_one.no_more, (i.one_within f.sees_one.transition).1)))
           (f.sees_two.is ∙ ago_is _ _ t f.sees_two.delay
-          (omega (arith, f.sees_two.no_more, (i.two_within f.sees_two.direction).1)));
+          (omega (arith, f.sees_two.no_more, (i.two_within f.sees_two.transition).1)));
     }
 
--- THE PROMISE over these windows sources that show the bits b in their windows of cycle n make every signal show its
--- ideal bit while it is stable at that bit
+-- sources that show the bits b in their windows of cycle n make every signal show its ideal bit while it is stable
 signal_shows : (m : Board) (d : ℕ → GateBounds) (w : ℕ → Wave) → Sound m.circuit → RiseFallMoves m.circuit d w →
     (n : ℕ) (b : ℕ → Bool) → Show m w n b → (k t : ℕ) → k < signals m.circuit →
     (stable_in m d n k).from (ideal m.circuit b k) ≤ t → t < (stable_in m d n k).until (ideal m.circuit b k) →
     w k t ≡ ideal m.circuit b k
 signal_shows m d w sound moves n b show =
-    rise_fall_window m.circuit d w b (λ i. record {
+    window m.circuit d w b (λ i. record {
       from =
           λ v. since m n i;
       until = λ v. still_until m n i;
@@ -280,11 +209,11 @@ module _ (m : Board) (d : ℕ → GateBounds) (x : Trace) (passed : RiseFallPass
       (m.takes r) t (passed.formed.taken r h)
       (omega (arith, passed.setup_kept n r h e v)) (omega (arith, passed.hold_kept n r h e v))
 
-pub rise_fall_promise : RiseFallPromise
-rise_fall_promise m d passed x run = holds_reference m x run.sources (right m d x passed run)
+pub promise_kept : RiseFallPromise
+promise_kept m d passed x run = holds_reference m x run.sources (right m d x passed run)
 
-pub rise_fall_in_window : RiseFallInWindow
-rise_fall_in_window m d passed x run n =
+pub in_window : RiseFallInWindow
+in_window m d passed x run n =
     signal_shows m d x.waves passed.formed.sound run.gates n (reference m x.start x.outside n)
     (shows_reference m x run.sources (right m d x passed run) n)
 
@@ -301,5 +230,5 @@ widest_pass m d within passed = record {
         ((stable_in m d n k).from b ≤ latest m.circuit (since m n) k)
         × (earliest m.circuit (still_until m n) k ≤ (stable_in m d n k).until b)
     better n k h b = no_worse_than_widest m.circuit d passed.formed.sound within (since m n) (still_until m n)
-        (λ i. record { from = λ v. since m n i; until = λ v. still_until m n i })
+        (sources_in m n)
         (λ i q v. (omega arith, omega arith)) k h b

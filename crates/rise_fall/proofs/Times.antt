@@ -1,16 +1,18 @@
--- Times with directions are those of paths, and narrower bounds give narrower times.
-use Rattle.std.proofs.Common.{◌≡◌, ℕ, ◌+◌, ◌<◌, ◌≤◌, ◌⊎◌, Bool, true, false, not, ◌&&◌, ◌||◌, cond, min, max, [], ◌∷◌}
-use Rattle.std.proofs.Common.{length, sym, refl, ◌∙◌, inl, inr, arith}
+-- Times by transition are those of paths.
+use Rattle.std.proofs.Common.{◌≡◌, ℕ, ◌+◌, ◌<◌, ◌≤◌, ◌⊎◌, Bool, true, false, not, ◌&&◌, cond, min, max, length}
+use Rattle.std.proofs.Common.{sym, refl, ◌∙◌, inl, inr, arith, ◌||◌, [], ◌∷◌}
 use Rattle.std.proofs.lemmas.Bool.{cases_lt, cases_Bool, cond-true, cond-false}
+use Rattle.circuit.proofs.Signals.{each_signal}
+use Rattle.circuit.specs.Circuit.{Circuit, gate, signals, Sound}
 use Rattle.circuit.specs.Gate.{output}
 use Rattle.circuit.specs.declared.gate.Gate.{Gate}
-use Rattle.circuit.specs.Circuit.{Circuit, gate, signals, Sound}
-use Rattle.circuit.proofs.Signals.{each_signal}
-use Rattle.rise_fall.specs.RiseFall.{GateBounds, shortest, Stable, delay_late, from_by, until_by, equal_bits, makes}
-use Rattle.rise_fall.specs.RiseFall.{is_constant, has_arc, swapped, soonest, longest_still, gate_stable, stable}
-use Rattle.rise_fall.specs.Paths.{RiseFallSteps, through, side, bounds_at, Leads, slowest, fastest, RiseFallLatestIs}
+use Rattle.rise_fall.specs.Gate.{GateBounds}
+use Rattle.rise_fall.specs.Paths.{RiseFallSteps, input, side, bounds_at, Leads, slowest, fastest, RiseFallLatestIs}
 use Rattle.rise_fall.specs.Paths.{RiseFallEarliestIs}
-use Rattle.rise_fall.proofs.Keeping.{in_larger, in_smaller, stable_source, stable_gate}
+use Rattle.rise_fall.specs.Times.{shortest, Stable, delay_late, from_by, until_by, equal_bits, makes, is_constant}
+use Rattle.rise_fall.specs.Times.{has_arc, swapped, soonest, longest_still, merged, gate_stable, stable}
+use Rattle.rise_fall.proofs.Keeping.{soonest_at, longest_still_at, stable_source, stable_gate}
+use Rattle.rise_fall.proofs.Seeing.{in_larger, in_smaller}
 
 -- of the four bits at a gate's inputs one at least has an arc
 some_of_four : (p q r s v : Bool) →
@@ -87,42 +89,42 @@ module _ (g : Gate) (d : GateBounds) (X Y : Stable) (v : Bool) where
 
   pub late_below : (second a : Bool) → has_arc (side second g) a v ≡ true →
       late_at second a ≤ (gate_stable d g X Y).from v
-  unfolding gate_stable
+  unfolding merged
   late_below true a r = omega (
     arith,
-    in_larger (λ z. cond (has_arc (swapped (output g.table)) z v) (from_by d.two Y z) (soonest d X Y)) a,
-    cond-true (has_arc (swapped (output g.table)) a v) (from_by d.two Y a) (soonest d X Y) r,
+    in_larger (λ z. cond (has_arc (swapped (output g.table)) z v) (from_by d.two Y z) (soonest_at d X Y)) a,
+    cond-true (has_arc (swapped (output g.table)) a v) (from_by d.two Y a) (soonest_at d X Y) r,
   )
   late_below false a r = omega (
     arith,
-    in_larger (λ z. cond (has_arc (output g.table) z v) (from_by d.one X z) (soonest d X Y)) a,
-    cond-true (has_arc (output g.table) a v) (from_by d.one X a) (soonest d X Y) r,
+    in_larger (λ z. cond (has_arc (output g.table) z v) (from_by d.one X z) (soonest_at d X Y)) a,
+    cond-true (has_arc (output g.table) a v) (from_by d.one X a) (soonest_at d X Y) r,
   )
 
   pub early_above : (second a : Bool) → has_arc (side second g) a v ≡ true →
       (gate_stable d g X Y).until v ≤ early_at second a
-  unfolding gate_stable
+  unfolding merged
   early_above true a r = omega (
     arith,
-    in_smaller (λ z. cond (has_arc (swapped (output g.table)) z v) (until_by d.two Y z) (longest_still d X Y)) a,
-    cond-true (has_arc (swapped (output g.table)) a v) (until_by d.two Y a) (longest_still d X Y) r,
+    in_smaller (λ z. cond (has_arc (swapped (output g.table)) z v) (until_by d.two Y z) (longest_still_at d X Y)) a,
+    cond-true (has_arc (swapped (output g.table)) a v) (until_by d.two Y a) (longest_still_at d X Y) r,
   )
   early_above false a r = omega (
     arith,
-    in_smaller (λ z. cond (has_arc (output g.table) z v) (until_by d.one X z) (longest_still d X Y)) a,
-    cond-true (has_arc (output g.table) a v) (until_by d.one X a) (longest_still d X Y) r,
+    in_smaller (λ z. cond (has_arc (output g.table) z v) (until_by d.one X z) (longest_still_at d X Y)) a,
+    cond-true (has_arc (output g.table) a v) (until_by d.one X a) (longest_still_at d X Y) r,
   )
 
   -- an input's bit that has an arc and has the gate's own time
-  abbrev pub Late : Type 0
-  Late = (second : Bool) × (a : Bool) × (has_arc (side second g) a v ≡ true)
+  abbrev pub LatestArc : Type 0
+  LatestArc = (second : Bool) × (a : Bool) × (has_arc (side second g) a v ≡ true)
       × (late_at second a ≡ (gate_stable d g X Y).from v)
 
-  Early : Type 0
-  Early = (second : Bool) × (a : Bool) × (has_arc (side second g) a v ≡ true)
+  EarliestArc : Type 0
+  EarliestArc = (second : Bool) × (a : Bool) × (has_arc (side second g) a v ≡ true)
       × (early_at second a ≡ (gate_stable d g X Y).until v)
 
-  late_any : (gate_stable d g X Y).from v ≡ soonest d X Y → Late
+  late_any : (gate_stable d g X Y).from v ≡ soonest_at d X Y → LatestArc
   unfolding soonest
   late_any is = elim (some_counts (output g.table) v) [
     | inl q ↦ elim q [
@@ -137,8 +139,8 @@ module _ (g : Gate) (d : GateBounds) (X Y : Stable) (v : Bool) where
     ]
   ]
 
-  early_any : (gate_stable d g X Y).until v ≡ longest_still d X Y → Early
-  unfolding longest_still Early
+  early_any : (gate_stable d g X Y).until v ≡ longest_still_at d X Y → EarliestArc
+  unfolding longest_still EarliestArc
   early_any is = elim (some_counts (output g.table) v) [
     | inl q ↦ elim q [
       | inl r ↦ (false, true, r, omega (arith, early_above false true r))
@@ -153,63 +155,64 @@ module _ (g : Gate) (d : GateBounds) (X Y : Stable) (v : Bool) where
   ]
 
   late_one : (second a : Bool) →
-      (gate_stable d g X Y).from v ≡ cond (has_arc (side second g) a v) (late_at second a) (soonest d X Y) → Late
+      (gate_stable d g X Y).from v ≡ cond (has_arc (side second g) a v) (late_at second a) (soonest_at d X Y) →
+      LatestArc
   late_one second a is = elim (cases_Bool (has_arc (side second g) a v)) [
     | inl r ↦ (
       second,
       a,
       r,
-      sym (cond-true (has_arc (side second g) a v) (late_at second a) (soonest d X Y) r)
+      sym (cond-true (has_arc (side second g) a v) (late_at second a) (soonest_at d X Y) r)
           ∙ sym is,
     )
-    | inr r ↦ late_any (is ∙ cond-false (has_arc (side second g) a v) (late_at second a) (soonest d X Y) r)
+    | inr r ↦ late_any (is ∙ cond-false (has_arc (side second g) a v) (late_at second a) (soonest_at d X Y) r)
   ]
 
   early_one : (second a : Bool) →
-      (gate_stable d g X Y).until v ≡ cond (has_arc (side second g) a v) (early_at second a) (longest_still d X Y) →
-      Early
-  unfolding Early
+      (gate_stable d g X Y).until v ≡ cond (has_arc (side second g) a v) (early_at second a) (longest_still_at d X Y) →
+      EarliestArc
+  unfolding EarliestArc
   early_one second a is = elim (cases_Bool (has_arc (side second g) a v)) [
     | inl r ↦ (
       second,
       a,
       r,
-      sym (cond-true (has_arc (side second g) a v) (early_at second a) (longest_still d X Y) r)
+      sym (cond-true (has_arc (side second g) a v) (early_at second a) (longest_still_at d X Y) r)
           ∙ sym is,
     )
-    | inr r ↦ early_any (is ∙ cond-false (has_arc (side second g) a v) (early_at second a) (longest_still d X Y) r)
+    | inr r ↦ early_any (is ∙ cond-false (has_arc (side second g) a v) (early_at second a) (longest_still_at d X Y) r)
   ]
 
-  pub late_some : Late
-  unfolding gate_stable
-  late_some = elim (four_max (cond (has_arc (output g.table) true v) (from_by d.one X true) (soonest d X Y))
-      (cond (has_arc (output g.table) false v) (from_by d.one X false) (soonest d X Y))
-      (cond (has_arc (swapped (output g.table)) true v) (from_by d.two Y true) (soonest d X Y))
-      (cond (has_arc (swapped (output g.table)) false v) (from_by d.two Y false) (soonest d X Y))) [
+  pub late_some : LatestArc
+  unfolding merged
+  late_some = elim (four_max (cond (has_arc (output g.table) true v) (from_by d.one X true) (soonest_at d X Y))
+      (cond (has_arc (output g.table) false v) (from_by d.one X false) (soonest_at d X Y))
+      (cond (has_arc (swapped (output g.table)) true v) (from_by d.two Y true) (soonest_at d X Y))
+      (cond (has_arc (swapped (output g.table)) false v) (from_by d.two Y false) (soonest_at d X Y))) [
         | inl q ↦ elim q [ inl r ↦ late_one false true r | inr r ↦ late_one false false r ]
         | inr q ↦ elim q [ inl r ↦ late_one true true r | inr r ↦ late_one true false r ]
       ]
 
-  early_some : Early
-  unfolding gate_stable
-  early_some = elim (four_min (cond (has_arc (output g.table) true v) (until_by d.one X true) (longest_still d X Y))
-      (cond (has_arc (output g.table) false v) (until_by d.one X false) (longest_still d X Y))
-      (cond (has_arc (swapped (output g.table)) true v) (until_by d.two Y true) (longest_still d X Y))
-      (cond (has_arc (swapped (output g.table)) false v) (until_by d.two Y false) (longest_still d X Y))) [
+  early_some : EarliestArc
+  unfolding merged
+  early_some = elim (four_min (cond (has_arc (output g.table) true v) (until_by d.one X true) (longest_still_at d X Y))
+      (cond (has_arc (output g.table) false v) (until_by d.one X false) (longest_still_at d X Y))
+      (cond (has_arc (swapped (output g.table)) true v) (until_by d.two Y true) (longest_still_at d X Y))
+      (cond (has_arc (swapped (output g.table)) false v) (until_by d.two Y false) (longest_still_at d X Y))) [
         | inl q ↦ elim q [ inl r ↦ early_one false true r | inr r ↦ early_one false false r ]
         | inr q ↦ elim q [ inl r ↦ early_one true true r | inr r ↦ early_one true false r ]
       ]
 
 module _ (c : Circuit) (d : ℕ → GateBounds) (s : ℕ → Stable) (sound : Sound c) where
   late_gate : (x : ℕ) (second a v : Bool) → x < length c.gates → has_arc (side second (gate c x)) a v ≡ true →
-      (stable c d s (through second (gate c x))).from a + delay_late (bounds_at second (d x))
-      (stable c d s (through second (gate c x))) a ≤ (stable c d s (c.inputs + x)).from v
+      (stable c d s (input second (gate c x))).from a + delay_late (bounds_at second (d x))
+      (stable c d s (input second (gate c x))) a ≤ (stable c d s (c.inputs + x)).from v
   unfolding from_by
   late_gate x true a v h r = rw (stable_gate c d sound s x h) (late_below (gate c x) (d x) _ _ v true a r)
   late_gate x false a v h r = rw (stable_gate c d sound s x h) (late_below (gate c x) (d x) _ _ v false a r)
 
   early_gate : (x : ℕ) (second a v : Bool) → x < length c.gates → has_arc (side second (gate c x)) a v ≡ true →
-      (stable c d s (c.inputs + x)).until v ≤ (stable c d s (through second (gate c x))).until a + shortest
+      (stable c d s (c.inputs + x)).until v ≤ (stable c d s (input second (gate c x))).until a + shortest
       (bounds_at second (d x))
   unfolding until_by
   early_gate x true a v h r = rw (stable_gate c d sound s x h) (early_above (gate c x) (d x) _ _ v true a r)
@@ -245,7 +248,7 @@ module _ (c : Circuit) (d : ℕ → GateBounds) (s : ℕ → Stable) (sound : So
           × ((s i).from u + slowest c d s p ≡ (stable c d s (gate c k).one).from v)) →
           ((v : Bool) → (i : ℕ) × (u : Bool) × (p : RiseFallSteps) × Leads c i u p (gate c k).two v
           × ((s i).from u + slowest c d s p ≡ (stable c d s (gate c k).two).from v)) →
-          (v : Bool) → Late (gate c k) (d k) (stable c d s (gate c k).one) (stable c d s (gate c k).two) v →
+          (v : Bool) → LatestArc (gate c k) (d k) (stable c d s (gate c k).one) (stable c d s (gate c k).two) v →
           (i : ℕ) × (u : Bool) × (p : RiseFallSteps) × Leads c i u p (c.inputs + k) v
           × ((s i).from u + slowest c d s p ≡ (stable c d s (c.inputs + k)).from v)
       late_step k h p q v (false, a, r, is) = let b = p a in
@@ -255,7 +258,7 @@ module _ (c : Circuit) (d : ℕ → GateBounds) (s : ℕ → Stable) (sound : So
 
   some_earliest : (k : ℕ) → k < signals c → (v : Bool) → (i : ℕ) × (u : Bool) × (p : RiseFallSteps) × Leads c i u p k v
       × ((s i).until u + fastest c d p ≡ (stable c d s k).until v)
-  unfolding Leads fastest until_by Early
+  unfolding Leads fastest until_by EarliestArc
   some_earliest = each_signal c sound
       (λ k. (v : Bool) → (i : ℕ) × (u : Bool) × (p : RiseFallSteps) × Leads c i u p k v
       × ((s i).until u + fastest c d p ≡ (stable c d s k).until v))
@@ -269,7 +272,7 @@ module _ (c : Circuit) (d : ℕ → GateBounds) (s : ℕ → Stable) (sound : So
           × ((s i).until u + fastest c d p ≡ (stable c d s (gate c k).one).until v)) →
           ((v : Bool) → (i : ℕ) × (u : Bool) × (p : RiseFallSteps) × Leads c i u p (gate c k).two v
           × ((s i).until u + fastest c d p ≡ (stable c d s (gate c k).two).until v)) →
-          (v : Bool) → Early (gate c k) (d k) (stable c d s (gate c k).one) (stable c d s (gate c k).two) v →
+          (v : Bool) → EarliestArc (gate c k) (d k) (stable c d s (gate c k).one) (stable c d s (gate c k).two) v →
           (i : ℕ) × (u : Bool) × (p : RiseFallSteps) × Leads c i u p (c.inputs + k) v
           × ((s i).until u + fastest c d p ≡ (stable c d s (c.inputs + k)).until v)
       early_step k h p q v (false, a, r, is) = let b = p a in
@@ -277,9 +280,9 @@ module _ (c : Circuit) (d : ℕ → GateBounds) (s : ℕ → Stable) (sound : So
       early_step k h p q v (true, a, r, is) = let b = q a in
           (b.0, b.1, (k, true, a) ∷ b.2, (refl, h, r, b.3), rw (stable_gate c d sound s k h) (omega (arith, b.4)))
 
-pub rise_fall_latest_is : RiseFallLatestIs
-rise_fall_latest_is c d s k v sound h = (λ i u p l. none_later c d s sound i u p k v l, some_latest c d s sound k h v)
+pub latest_is : RiseFallLatestIs
+latest_is c d s k v sound h = (λ i u p l. none_later c d s sound i u p k v l, some_latest c d s sound k h v)
 
-pub rise_fall_earliest_is : RiseFallEarliestIs
-rise_fall_earliest_is c d s k v sound h =
+pub earliest_is : RiseFallEarliestIs
+earliest_is c d s k v sound h =
     (λ i u p l. none_sooner c d s sound i u p k v l, some_earliest c d s sound k h v)

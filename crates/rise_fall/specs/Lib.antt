@@ -1,4 +1,8 @@
-pub mod RiseFall
+pub mod Gate
+pub mod Times
 pub mod Promise
+pub mod Widest
 pub mod Paths
-pub mod More
+pub mod Within
+pub mod Cycles
+pub mod Weaker

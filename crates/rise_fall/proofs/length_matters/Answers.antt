@@ -1,4 +1,4 @@
-use Rattle.rise_fall.proofs.Going as laws
+use Rattle.rise_fall.proofs.Buffers as laws
 use Rattle.rise_fall.proofs.length_matters.Goals as goal
 
 pub returns : goal.returns

@@ -1,0 +1,5 @@
+use Rattle.rise_fall.proofs.Times as laws
+use Rattle.rise_fall.proofs.latest_is.Goals as goal
+
+pub returns : goal.returns
+returns c = laws.latest_is

@@ -1,0 +1,5 @@
+use Rattle.rise_fall.proofs.Comparing as laws
+use Rattle.rise_fall.proofs.narrower.Goals as goal
+
+pub returns : goal.returns
+returns c = laws.narrower

@@ -1,5 +1,0 @@
-use Rattle.rise_fall.proofs.Comparing as laws
-use Rattle.rise_fall.proofs.rise_fall_fewer_takes.Goals as goal
-
-pub returns : goal.returns
-returns c = laws.rise_fall_fewer_takes

@@ -1,5 +1,0 @@
-use Rattle.rise_fall.proofs.Keeping as laws
-use Rattle.rise_fall.proofs.rise_fall_window.Goals as goal
-
-pub returns : goal.returns
-returns c = laws.rise_fall_window
