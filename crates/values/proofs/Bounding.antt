@@ -152,19 +152,19 @@ pub blocked_is_not_sensitized : BlockedIsNotSensitized
 unfolding is_blocked Sensitizes Leads
 blocked_is_not_sensitized c p b sound allows i k [] leads is through = true≢false (sym is)
 blocked_is_not_sensitized c p b sound allows i k ((g, false) ∷ q) leads is through =
+    let two : ℕ = (gate c g).two in
+    let low : two < signals c = omega (arith, sound.before g leads.1) in
+    let side = (bounds_hold c p b (λ i. 0) sound allows two low).0 in
     elim (or_true _ _ is) [
-      | inl here ↦
-          let two : ℕ = (gate c g).two in
-          let low : two < signals c = omega (arith, sound.before g leads.1) in
-          clash _ (two_controls (gate c g) (implied_bit c p two) (ideal c b two) (bounds_hold c p b (λ i. 0) sound allows two low).0 here) through.0
+      | inl here ↦ clash _ (two_controls (gate c g) (implied_bit c p two) (ideal c b two) side here) through.0
       | inr before ↦ blocked_is_not_sensitized c p b sound allows i (gate c g).one q leads.2 before through.1
     ]
 blocked_is_not_sensitized c p b sound allows i k ((g, true) ∷ q) leads is through =
+    let one : ℕ = (gate c g).one in
+    let low : one < signals c = omega (arith, sound.before g leads.1) in
+    let side = (bounds_hold c p b (λ i. 0) sound allows one low).0 in
     elim (or_true _ _ is) [
-      | inl here ↦
-          let one : ℕ = (gate c g).one in
-          let low : one < signals c = omega (arith, sound.before g leads.1) in
-          clash _ (one_controls (gate c g) (implied_bit c p one) (ideal c b one) (bounds_hold c p b (λ i. 0) sound allows one low).0 here) through.0
+      | inl here ↦ clash _ (one_controls (gate c g) (implied_bit c p one) (ideal c b one) side here) through.0
       | inr before ↦ blocked_is_not_sensitized c p b sound allows i (gate c g).two q leads.2 before through.1
     ]
 

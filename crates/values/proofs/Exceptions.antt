@@ -16,7 +16,7 @@ use Rattle.promise.specs.Run.{Clocks, Run}
 use Rattle.values.specs.FalsePath.{Sensitizes, IsFalsePath, Violates}
 use Rattle.values.specs.Examples.{GoesWrong}
 use Rattle.values.specs.Exceptions.{PassedWithExceptions, TwoExceptionsFail, OneExceptionFails, PassedWithLonger}
-use Rattle.values.proofs.Each.{each, whole_by, formed_of}
+use Rattle.values.proofs.Examples.{each, whole_by, formed_of, follows}
 
 -- a path is launched by a source
 launched : (c : Circuit) (i k : ℕ) (p : Steps) → Leads c i p k → i < c.inputs
@@ -39,15 +39,7 @@ pulse : Machine
 pulse = machine_in pulse_gates pulse_registers pulse_times
 
 pulse_whole : Whole pulse_gates pulse_registers pulse_times
-pulse_whole = whole_by _ _ _ (omega arith) (omega arith) (omega arith) (record {
-  shaped = (refl, refl, refl);
-  registers_some = omega arith;
-  gates_few = omega arith;
-  placed = omega arith;
-  ranged = omega arith;
-  tied = omega arith;
-  ordered = omega arith;
-})
+pulse_whole = whole_by _ _ _ (omega arith)
 
 -- the paths that end at the register: from it by the second input of the second gate, or through both gates
 short : Steps
@@ -160,8 +152,8 @@ pulse_goes_wrong = (start, clock, holds, w, run, (2, 0, omega arith, λ e. true�
     takes n zero b h all = sym (taken n) ∙ all (clock (suc n) 0) (omega arith) (omega arith)
 
     gates : Moves pulse.circuit w
-    gates zero t h a b = record { delay_one = 20; delay_two = 20; one_least = omega arith; one_greatest = omega arith; two_least = omega arith; two_greatest = omega arith; is = refl }
-    gates (suc zero) t h a b = record { delay_one = 0; delay_two = 0; one_least = omega arith; one_greatest = omega arith; two_least = omega arith; two_greatest = omega arith; is = refl }
+    gates zero t h a b = follows _ _ _ _ t 20 20 (omega arith) refl
+    gates (suc zero) t h a b = follows _ _ _ _ t 0 0 (omega arith) refl
     gates (suc (suc k)) t h a b = absurd (omega arith)
 
     run : Run pulse start clock holds w
@@ -193,15 +185,7 @@ slow : Machine
 slow = machine_in slow_gates slow_registers slow_times
 
 slow_whole : Whole slow_gates slow_registers slow_times
-slow_whole = whole_by _ _ _ (omega arith) (omega arith) (omega arith) (record {
-  shaped = (refl, refl, refl);
-  registers_some = omega arith;
-  gates_few = omega arith;
-  placed = omega arith;
-  ranged = omega arith;
-  tied = omega arith;
-  ordered = omega arith;
-})
+slow_whole = whole_by _ _ _ (omega arith)
 
 by : Bool → Steps
 by second = (0, second) ∷ []
@@ -281,7 +265,7 @@ slow_goes_wrong = ((λ r. false), clock, holds, w, run, (1, 0, omega arith, λ e
     gates : Moves slow.circuit w
     gates zero t h a b =
         let on : shown (t - 1) ≡ true = ap not (le-ltb (t - 1) 20 (omega arith)) in
-        record { delay_one = 1; delay_two = 1; one_least = omega arith; one_greatest = omega arith; two_least = omega arith; two_greatest = omega arith; is = rw on refl }
+        follows _ _ _ _ t 1 1 (omega arith) (rw on refl)
     gates (suc k) t h a b = absurd (omega arith)
 
     run : Run slow (λ r. false) clock holds w

@@ -1,6 +1,6 @@
 pub mod Bounding
 pub mod ClosedPart
-pub mod Each
+pub mod Examples
 pub mod Exceptions
 pub mod FalsePaths
 pub mod More

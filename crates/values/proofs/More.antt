@@ -1,5 +1,5 @@
 -- A circuit that is passed by values alone.
-use Rattle.std.proofs.Common.{ℕ, ◌≤◌, Bool, true, false, List, [], ◌∷◌, refl, arith}
+use Rattle.std.proofs.Common.{ℕ, ◌≤◌, Bool, true, false, List, [], ◌∷◌, arith}
 use Rattle.circuit.specs.Gate.{output}
 use Rattle.circuit.specs.Circuit.{along}
 use Rattle.circuit.specs.Lent.{gates_in}
@@ -9,7 +9,7 @@ use Rattle.arrival.specs.Arrival.{arrival}
 use Rattle.promise.specs.Machine.{Machine, machine_in, Passed}
 use Rattle.values.specs.Settling.{settle_time}
 use Rattle.values.specs.ByValues.{last_change_by, PassesMore}
-use Rattle.values.proofs.Each.{each, whole_by, formed_of}
+use Rattle.values.proofs.Examples.{each, whole_by, formed_of}
 
 -- the second gate takes the register's bit without the first gate's output, which is that bit too, by one of its
 -- inputs too late
@@ -26,15 +26,7 @@ machine : Machine
 machine = machine_in gates registers times
 
 whole : Whole gates registers times
-whole = whole_by _ _ _ (omega arith) (omega arith) (omega arith) (record {
-  shaped = (refl, refl, refl);
-  registers_some = omega arith;
-  gates_few = omega arith;
-  placed = omega arith;
-  ranged = omega arith;
-  tied = omega arith;
-  ordered = omega arith;
-})
+whole = whole_by _ _ _ (omega arith)
 
 with_bit : (a : Bool) → last_change_by machine (λ i. a) 2 ≤ 2
 unfolding machine settle_time ideal along output gates_in
