@@ -1,70 +1,61 @@
 -- The words of the table, computed.
-use Rattle.std.proofs.Common.{◌≡◌, ℕ, zero, suc, ◌+◌, ◌<◌, ◌≤◌, [], ◌∷◌, length, refl, arith}
-use Rattle.circuit.specs.Circuit.{gate, signals, along}
-use Rattle.circuit.specs.Lent.{gates_in}
+use Rattle.std.proofs.Common.{ℕ, List, [], ◌∷◌, refl, arith}
+use Rattle.circuit.specs.Circuit.{along}
+use Rattle.circuit.specs.Lent.{register_count, gates_in}
+use Rattle.circuit.specs.Whole.{Whole}
 use Rattle.arrival.specs.Arrival.{arrival}
 use Rattle.path.specs.Path.{told, written_steps}
-use Rattle.promise.specs.Machine.{Machine, SetupKept, HoldKept, Passed}
-use Rattle.worked.specs.Rows.{Row, Has, inverter, counter, and_not, passed, too_late, too_early, RowsHave}
+use Rattle.promise.specs.Machine.{machine_in, SetupKept, HoldKept, Passed}
+use Rattle.values.proofs.Examples.{Every, each, whole_by, formed_of}
+use Rattle.worked.specs.Rows.{HasWord, inverter, counter, and_not, passed, too_late, too_early, RowsHave}
 
--- what holds of each number below n, written out
-abbrev pub Every : ℕ → (ℕ → Type 0) → Type 0
-Every zero P = Unit {0}
-Every (suc n) P = P 0 × Every n (λ k. P (suc k))
+-- a circuit is passed if its sums are right, register by register
+passes : (g r t : List ℕ) → Whole g r t → Every (register_count r) (SetupKept (machine_in g r t)) →
+    Every (register_count r) (HoldKept (machine_in g r t)) → Whole g r t × Passed (machine_in g r t)
+passes g r t whole setup hold = (
+  whole,
+  record {
+    formed = formed_of g r t whole;
+    setup_kept = each _ _ setup;
+    hold_kept = each _ _ hold;
+  },
+)
 
-pub each : (n : ℕ) (P : ℕ → Type 0) → Every n P → (k : ℕ) → k < n → P k
-each zero P e k h = absurd (omega arith)
-each (suc n) P e zero h = e.0
-each (suc n) P e (suc k) h = each n (λ k. P (suc k)) e.1 k (omega arith)
-
--- a machine is passed if this is so, number by number
-passes : (m : Machine) → m.circuit.inputs ≡ m.registers →
-    Every (length m.circuit.gates) (λ k. ((gate m.circuit k).one < m.circuit.inputs + k) × ((gate m.circuit k).two < m.circuit.inputs + k)) →
-    Every (length m.circuit.gates) (λ k. ((gate m.circuit k).least_one ≤ (gate m.circuit k).greatest_one) × ((gate m.circuit k).least_two ≤ (gate m.circuit k).greatest_two)) →
-    Every m.registers (λ r. m.takes r < signals m.circuit) → Every m.registers (λ r. m.early r ≤ m.late r) → m.output_early ≤ m.output_late →
-    Every m.registers (SetupKept m) → Every m.registers (HoldKept m) → Passed m
-passes m sources before ranges taken clocked ordered setup hold = record {
-  formed = record {
-    sources = sources;
-    sound = record { before = each _ _ before; ranges = each _ _ ranges };
-    taken = each _ _ taken;
-    clocked = each _ _ clocked;
-    output_ordered = ordered;
-  };
-  setup_kept = each _ _ setup;
-  hold_kept = each _ _ hold;
-}
-
-abbrev holds : Row → Type 0
-holds x = Has x.gates x.registers x.times x.word
-
-first : holds (inverter 3 20 passed)
+first : HasWord (inverter 3 20 passed)
 unfolding arrival along gates_in
-first = passes _ refl (omega arith) (omega arith) (omega arith) (omega arith) (omega arith) (omega arith) (omega arith)
+first = passes _ _ _ (whole_by _ _ _ (omega arith)) (omega arith) (omega arith)
 
-second : holds (inverter 3 16 (too_late 0 (0 ∷ 1 ∷ 0 ∷ []) 17 16))
+second : HasWord (inverter 3 16 (too_late 0 (0 ∷ 1 ∷ 0 ∷ []) 17 16))
 unfolding arrival along gates_in told written_steps
-second = ((omega arith, λ h. omega arith, λ q h. absurd (omega arith)), (refl, refl), refl)
+second =
+    (whole_by _ _ _ (omega arith), ((omega arith, λ h. omega arith, λ q h. absurd (omega arith)), (refl, refl), refl))
 
-third : holds (inverter 1 20 (too_early 0 (0 ∷ 1 ∷ 0 ∷ []) 3 3))
+third : HasWord (inverter 1 20 (too_early 0 (0 ∷ 1 ∷ 0 ∷ []) 3 3))
 unfolding arrival along gates_in told written_steps
-third = ((each 1 _ (omega arith), (omega arith, λ h. omega arith, λ q h. absurd (omega arith))), (refl, refl), refl)
+third = (
+  whole_by _ _ _ (omega arith),
+  ((each 1 _ (omega arith), (omega arith, λ h. omega arith, λ q h. absurd (omega arith))), (refl, refl), refl),
+)
 
-fourth : holds (counter 3 passed)
+fourth : HasWord (counter 3 passed)
 unfolding arrival along gates_in
-fourth = passes _ refl (omega arith) (omega arith) (omega arith) (omega arith) (omega arith) (omega arith) (omega arith)
+fourth = passes _ _ _ (whole_by _ _ _ (omega arith)) (omega arith) (omega arith)
 
-fifth : holds (counter 0 (too_early 1 (0 ∷ []) 2 3))
+fifth : HasWord (counter 0 (too_early 1 (0 ∷ []) 2 3))
 unfolding arrival along gates_in told written_steps
-fifth = ((each 2 _ (omega arith), (omega arith, λ h. omega arith, each 1 _ (omega arith))), (refl, refl), refl)
+fifth = (
+  whole_by _ _ _ (omega arith),
+  ((each 2 _ (omega arith), (omega arith, λ h. omega arith, each 1 _ (omega arith))), (refl, refl), refl),
+)
 
-sixth : holds (and_not 20 passed)
+sixth : HasWord (and_not 20 passed)
 unfolding arrival along gates_in
-sixth = passes _ refl (omega arith) (omega arith) (omega arith) (omega arith) (omega arith) (omega arith) (omega arith)
+sixth = passes _ _ _ (whole_by _ _ _ (omega arith)) (omega arith) (omega arith)
 
-seventh : holds (and_not 19 (too_late 0 (0 ∷ 2 ∷ 0 ∷ 3 ∷ 0 ∷ []) 20 19))
+seventh : HasWord (and_not 19 (too_late 0 (0 ∷ 2 ∷ 0 ∷ 3 ∷ 0 ∷ []) 20 19))
 unfolding arrival along gates_in told written_steps
-seventh = ((omega arith, λ h. omega arith, λ q h. absurd (omega arith)), (refl, refl), refl)
+seventh =
+    (whole_by _ _ _ (omega arith), ((omega arith, λ h. omega arith, λ q h. absurd (omega arith)), (refl, refl), refl))
 
 pub rows_have : RowsHave
 rows_have = (first, (second, (third, (fourth, (fifth, (sixth, (seventh, tt)))))))

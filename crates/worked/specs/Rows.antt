@@ -1,6 +1,7 @@
 -- Seven small circuits and the words that they get.
 use Rattle.std.specs.Prelude.{◌≡◌, ℕ, List, [], ◌∷◌}
 use Rattle.circuit.specs.Lent.{register_count, drawn, takes}
+use Rattle.circuit.specs.Whole.{Whole}
 use Rattle.arrival.specs.declared.edge.Edge.{Edge}
 use Rattle.arrival.specs.declared.edge.Edge.TheVariants.{Late, Early}
 use Rattle.arrival.specs.Lent.{source}
@@ -30,9 +31,13 @@ Has g r t passed = Passed (machine_in g r t)
 Has g r t (too_late q path a b) = FirstLate g r t q × LateSums g r t q a b × (path_at Late g r t q ≡ path)
 Has g r t (too_early q path a b) = FirstEarly g r t q × EarlySums g r t q a b × (path_at Early g r t q ≡ path)
 
+-- a row's numbers are a circuit that has the row's word
+abbrev pub HasWord : Row → Type 0
+HasWord x = Whole x.gates x.registers x.times × Has x.gates x.registers x.times x.word
+
 abbrev pub AllHave : List Row → Type 0
 AllHave [] = Unit {0}
-AllHave (x ∷ xs) = Has x.gates x.registers x.times x.word × AllHave xs
+AllHave (x ∷ xs) = HasWord x × AllHave xs
 
 -- the five times with a period; the clock comes from 0 to 2 everywhere
 abbrev pub with_period : ℕ → List ℕ
@@ -71,6 +76,6 @@ rows =
     ∷ and_not 19 (too_late 0 (0 ∷ 2 ∷ 0 ∷ 3 ∷ 0 ∷ []) 20 19)
     ∷ []
 
--- every circuit of the table has its word
+-- the numbers of every row of the table are a circuit that has its word
 abbrev pub RowsHave : Type 0
 RowsHave = AllHave rows

@@ -1,17 +1,12 @@
 -- Tests that look right and are weaker than passing: each lets a circuit through that goes wrong in some run.
-use Rattle.std.specs.Prelude.{◌≡◌, ℕ, ◌+◌, ◌-◌, ◌<◌, ◌≤◌, Bool, length, ◌≢◌}
-use Rattle.circuit.specs.Gate.{output}
-use Rattle.circuit.specs.Circuit.{Circuit, gate}
+use Rattle.std.specs.Prelude.{◌≡◌, ℕ, ◌+◌, ◌<◌, ◌≤◌, max, Bool}
+use Rattle.circuit.specs.Circuit.{Circuit, along}
 use Rattle.arrival.specs.Arrival.{latest, earliest}
 use Rattle.arrival.specs.Window.{Wave}
-use Rattle.promise.specs.Machine.{Machine, Formed, SetupKept, first_change, drawing}
+use Rattle.promise.specs.Machine.{Machine, SetupKept, HoldKept, still_for, first_change, drawing}
+use Rattle.promise.specs.Promise.{Delays, MovesBy}
 use Rattle.promise.specs.Run.{Run}
-
--- in some run some register does not hold the drawing's bit after some cycle
-abbrev pub GoesWrong : Machine → Type 0
-GoesWrong m =
-    (start : ℕ → Bool) × (clock : ℕ → ℕ → ℕ) × (holds : ℕ → ℕ → Bool) × (w : ℕ → Wave) × Run m start clock holds w
-    × ((n : ℕ) × (r : ℕ) × (r < m.registers) × (holds n r ≢ drawing m start n r))
+use Rattle.values.specs.Examples.{SomeCircuit, GoesWrong}
 
 -- at most in place of below in the hold sum
 abbrev pub AtMost : Machine → Type 0
@@ -27,22 +22,40 @@ SumsAt m clock r =
 abbrev pub OneClock : Machine → Type 0
 OneClock m = (r : ℕ) → r < m.registers → SumsAt m m.late r × SumsAt m m.early r
 
--- every gate has one delay, chosen once and kept; where a gate's two inputs have the same bounds, all delays at their greatest, and all at their
--- least, are such choices
-pub record Steady (c : Circuit) (w : ℕ → Wave) : Type 0 where
-  pub kept : ℕ → ℕ
-  pub follows : (k t : ℕ) → k < length c.gates → (gate c k).greatest_one ≤ t → (gate c k).greatest_two ≤ t →
-      w (c.inputs + k) t ≡ output (gate c k).table (w (gate c k).one (t - kept k)) (w (gate c k).two (t - kept k))
-
--- all runs with such delays hold the drawing's bits
+-- all runs hold the drawing's bits in which each input of each gate has one delay, chosen once within its bounds and
+-- kept at all moments; one is the delay of each gate's first input and two of its second. All greatest delays, and
+-- all least, are such choices
 abbrev pub KeptDelays : Machine → Type 0
 KeptDelays m =
-    (start : ℕ → Bool) (clock : ℕ → ℕ → ℕ) (holds : ℕ → ℕ → Bool) (w : ℕ → Wave) → Run m start clock holds w → Steady m.circuit w →
+    (one two : ℕ → ℕ) → Delays m.circuit (λ k t. one k) (λ k t. two k) →
+    (start : ℕ → Bool) (clock : ℕ → ℕ → ℕ) (holds : ℕ → ℕ → Bool) (w : ℕ → Wave) →
+    Run m start clock holds w → MovesBy m.circuit (λ k t. one k) (λ k t. two k) w →
     (n r : ℕ) → r < m.registers → holds n r ≡ drawing m start n r
 
--- a test lets a well formed machine through that goes wrong
+-- the earliest time of every signal, but with the greatest of a gate's inputs' times, each with its least delay,
+-- where the smallest is right
+unfoldable pub greatest_early : Circuit → (s : ℕ → ℕ) → (ℕ → ℕ)
+greatest_early c s = along (λ _ g a b. max (a + g.least_one) (b + g.least_two)) c.inputs c.gates s
+
+-- the right setup sum, and the hold sum with this time
+abbrev pub GreatestEarly : Machine → Type 0
+GreatestEarly m =
+    (r : ℕ) → r < m.registers →
+    SetupKept m r × (m.late r + m.hold < greatest_early m.circuit (still_for m) (m.takes r))
+
+-- the period less the late time in place of the right setup sum: all registers are taken to be clocked at a cycle's
+-- beginning, and the late time of the register that takes is taken off the period, to make up for that. So the latest
+-- time of the signal from the latest output time alone, and the setup time, are at most the period less this late
+-- time; and the hold sum is right
+abbrev pub PeriodLessLate : Machine → Type 0
+PeriodLessLate m =
+    (r : ℕ) → r < m.registers →
+    (latest m.circuit (λ i. m.output_late) (m.takes r) + m.setup + m.late r ≤ m.period) × HoldKept m r
+
+-- a test lets a circuit through that goes wrong
 abbrev pub NotEnough : (Machine → Type 0) → Type 0
-NotEnough Test = (m : Machine) × Formed m × Test m × GoesWrong m
+NotEnough Test = SomeCircuit (λ m. Test m × GoesWrong m)
 
 abbrev pub WeakerTestsFail : Type 0
-WeakerTestsFail = NotEnough AtMost × NotEnough OneClock × NotEnough KeptDelays
+WeakerTestsFail =
+    NotEnough AtMost × NotEnough OneClock × NotEnough KeptDelays × NotEnough GreatestEarly × NotEnough PeriodLessLate
