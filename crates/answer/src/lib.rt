@@ -7,7 +7,7 @@ ghost use Rattle.slack.specs.Margin.{AreSmallest};
 ghost use Rattle.text.specs.Meaning.{drafted};
 ghost use Rattle.wording.specs.Line.{StandsBehind};
 ghost use Rattle.wording.specs.Words.{titled};
-ghost use Rattle.answer.specs.Line.{LineSays, PeriodLine};
+ghost use Rattle.answer.specs.Line.{LineSays, PeriodLine, RatioLine};
 ghost use Rattle.answer.specs.Said.{machine_of, PassedIf, PeriodIf, RefusedFirst, Taken, behind, line_about, TurnedAwayIf};
 
 use circuit::{Circuit, Numbers};
@@ -32,6 +32,13 @@ pub struct Said {
 pub struct Paced {
     pub line: String,
     pub period: Option<u64>,
+}
+
+/// The line on a circuit's smallest setup margin as a part of its period, and whether the circuit is turned away.
+#[derive(Drop)]
+pub struct Rated {
+    pub line: String,
+    pub turned_away: bool,
 }
 
 // The circuit that was read, where it is not turned away.
@@ -189,4 +196,22 @@ pub fn period(heap: Global, draft: &Draft, text: &[u8], before: usize) -> Result
     let line = wording::line(heap, &draft.name, Word::Shortest(shortest))?;
     let period = Some(shortest);
     Ok(Paced { line, period })
+}
+
+/// The line on a circuit's smallest setup margin as a part of its period; the rest is as for `answer`.
+pub fn ratio(heap: Global, draft: &Draft, text: &[u8], before: usize) -> Result<Rated, fmt::Error>
+    ensures away { IfOk result (λ a. TurnedAwayIf (drafted draft.now) a.turned_away) }
+    ensures line { IfOk result (λ a. RatioLine (titled (vec_items draft.now.name)) (machine_of (drafted draft.now)) a.turned_away (string_bytes a.line)) }
+{
+    if let Some(refused) = refused(draft, text, before) {
+        return Ok(Rated {
+            line: wording::line(heap, &draft.name, Word::TurnedAway(refused))?,
+            turned_away: true,
+        });
+    }
+    let words = near::in_words(heap, near::setup_ratio(taken(draft)))?;
+    Ok(Rated {
+        line: wording::line(heap, &draft.name, Word::Ratio(&words))?,
+        turned_away: false,
+    })
 }

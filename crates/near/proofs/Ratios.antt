@@ -1,7 +1,7 @@
 -- The rounded quotient of a margin and a period is its ratio, with its sign.
-use Rattle.std.proofs.Common.{◌≡◌, ℕ, zero, suc, ◌+◌, ◌*◌, ◌%◌, ◌^◌, ◌<◌, ◌≤◌, ℤ, pos, negsuc, Bool, true, false, sym, ap, subst, ◌∙◌, refl, inl, inr, arith, ◌↔◌, ◌<ℤ◌}
+use Rattle.std.proofs.Common.{◌≡◌, ℕ, zero, suc, ◌+◌, ◌*◌, ◌%◌, ◌^◌, ◌<◌, ◌≤◌, ℤ, pos, negsuc, Bool, true, false, sym, ap, subst, ◌∙◌, refl, inl, inr, arith, ◌↔◌, ◌<ℤ◌, FitsSigned, w64, to_z, of_z}
 use Rattle.std.proofs.lemmas.Bool.{cases_lt, cases_eq}
-use Rattle.std.proofs.lemmas.Int.{ints}
+use Rattle.std.proofs.lemmas.Int.{ints, to_z-of_z}
 use mathlib.Core.Bool.{false≢true}
 use native.Mathlib.Nat.{mul-pos}
 use lib.Dec.{T}
@@ -101,7 +101,9 @@ ratio_is (negsuc n) d small some few =
     }
 
 -- the quotient of the number of a margin and that of a period
-pub ratio_of : (z : ℤ) (d : ℕ) (x : Float) → size_of z < 2 ^ 35 → 0 < d → d < 2 ^ 32 → x ≡ of_int binary64 z → IsRatio z d (div binary64 x (of_int binary64 (pos d)))
-ratio_of z d x small some few is =
-    let rounds : div binary64 x (of_int binary64 (pos d)) ≡ rounded z d = ap (λ (v : Float). div binary64 v (of_int binary64 (pos d))) is ∙ div_is z d (omega arith) some (omega arith) in
+pub ratio_of : (z : ℤ) (d : ℕ) (x : Float) → size_of z < 2 ^ 35 → 0 < d → d < 2 ^ 32 → FitsSigned w64 z → x ≡ of_int binary64 (to_z w64 (of_z w64 z)) →
+    IsRatio z d (div binary64 x (of_int binary64 (pos d)))
+ratio_of z d x small some few fits is =
+    let number : x ≡ of_int binary64 z = is ∙ ap (λ (v : ℤ). of_int binary64 v) (to_z-of_z w64 z fits) in
+    let rounds : div binary64 x (of_int binary64 (pos d)) ≡ rounded z d = ap (λ (v : Float). div binary64 v (of_int binary64 (pos d))) number ∙ div_is z d (omega arith) some (omega arith) in
     subst (λ (v : Float). IsRatio z d v) (sym rounds) (ratio_is z d small some few)

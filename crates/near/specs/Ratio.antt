@@ -1,5 +1,5 @@
 -- A margin as a part of the period: the binary64 number that is nearest to margin / period.
-use Rattle.std.specs.Prelude.{◌≡◌, ℕ, suc, ◌+◌, ◌-◌, ◌*◌, ◌/◌, ◌%◌, ◌^◌, ◌≤◌, ◌↔◌, ℤ, pos, negsuc, ◌<ℤ◌, Bool, true, false, T, to_bits}
+use Rattle.std.specs.Prelude.{◌≡◌, ℕ, suc, ◌+◌, ◌-◌, ◌*◌, ◌/◌, ◌%◌, ◌^◌, ◌<◌, ◌≤◌, ◌↔◌, ℤ, pos, negsuc, ◌<ℤ◌, Bool, true, false, T, Option, Some, None, to_bits}
 use Rattle.std.specs.Float.{Float, nan, inf, fin, binary64, float_is_finite, float_zero, is_sign_negative, ◌<ᶠ◌}
 use lib.Ieee.{fits, up, down}
 use Rattle.arrival.specs.declared.edge.Edge.TheVariants.{Late}
@@ -54,6 +54,7 @@ pub record IsRatio (margin : ℤ) (period : ℕ) (x : Float) : Type 0 where
   pub below : (x <ᶠ float_zero) ↔ (margin <ℤ pos 0)
   pub zero : margin ≡ pos 0 → x ≡ float_zero
 
--- x is the smallest setup margin of a machine's registers as a part of its period
-abbrev pub IsSetupRatio : Machine → Float → Type 0
-IsSetupRatio m x = (w : Worst) × IsWorst Late m m.registers w × IsRatio w.margin m.period x
+-- the smallest setup margin of a machine's registers as a part of its period: none exactly where the period is 0
+abbrev pub IsSetupRatio : Machine → Option Float → Type 0
+IsSetupRatio m None = m.period ≡ 0
+IsSetupRatio m (Some x) = (0 < m.period) × (w : Worst) × IsWorst Late m m.registers w × IsRatio w.margin m.period x

@@ -1,7 +1,6 @@
 // The smallest setup margin as a part of the period.
-ghost use Rattle.std.specs.Prelude.{◌≡◌, ◌^◌, ◌<◌, ◌↔◌, IfSome, IsNone};
+ghost use Rattle.std.specs.Prelude.{◌^◌, ◌<◌};
 ghost use Rattle.circuit.specs.Checked.{of};
-ghost use Rattle.circuit.specs.Lent.{period};
 ghost use Rattle.promise.specs.Machine.{machine_in};
 ghost use Rattle.near.specs.Ratio.{size_of, IsRatio, IsSetupRatio};
 
@@ -22,8 +21,7 @@ fn ratio(margin: i64, period: u32) -> f64
 /// The smallest setup margin of a circuit's registers divided by its period, rounded once to the nearest number, ties to
 /// even; below 0 where time is missing, and `None` where the period is 0.
 pub fn setup_ratio(circuit: Circuit<'_>) -> Option<f64>
-    ensures none { IsNone result ↔ (period circuit.entry.times.now ≡ 0) }
-    ensures ratio { IfSome result (IsSetupRatio (of circuit.entry machine_in)) }
+    ensures { IsSetupRatio (of circuit.entry machine_in) result }
 {
     let period = circuit.period();
     if period == 0 {
