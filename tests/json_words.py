@@ -57,7 +57,9 @@ def check_object(o, want, path):
     assert type(o["line"]) is int and o["line"] >= 1
     assert plain_word(o) == want, (plain_word(o), want)
     keys = {"passed": JUDGED, "too late": MISSED, "too early": MISSED, "turned away": {"refusal"}}[o["word"]]
-    assert set(o) - {"name"} == keys | {"file", "line", "word"}, o
+    # Where the period is 0 the margin is no part of it; `tests/near.py` looks at the number.
+    assert set(o) - {"name", "near"} == keys | {"file", "line", "word"}, o
+    assert "near" not in o or ("margin" in o and (o["near"] < 0) == (o["margin"]["setup"] < 0)), o
     if "margin" in o:
         assert sorted(o["margin"]) == ["hold", "setup"]
         assert (o["word"] == "passed") == (min(o["margin"].values()) >= 0)

@@ -1,6 +1,10 @@
 -- What the line says that is printed of a circuit.
-use Rattle.std.specs.Prelude.{◌≡◌, ℕ, ◌⊎◌, List, [], ◌∷◌, ◌++◌, Some, None, Option, codes}
+use Rattle.std.specs.Prelude.{◌≡◌, ℕ, Bool, true, false, ◌⊎◌, List, [], ◌∷◌, ◌++◌, Some, None, Option, codes}
+use Rattle.std.specs.Float.{Float}
+use Rattle.promise.specs.Machine.{Machine}
 use Rattle.slack.specs.declared.worst.Smallest.{Smallest}
+use Rattle.near.specs.Ratio.{IsSetupRatio}
+use Rattle.near.specs.Words.{IsWords}
 use Rattle.wording.specs.Line.{StandsBehind}
 use Rattle.wording.specs.Words.{margins}
 
@@ -13,3 +17,8 @@ PeriodLine front None t = StandsBehind front (codes "turned away by ") t
 abbrev pub LineSays : (front : List ℕ) → Option Smallest → (t : List ℕ) → Type 0
 LineSays front (Some s) t = t ≡ front ++ (codes "passed, " ++ (margins s ++ (10 ∷ [])))
 LineSays front None t = StandsBehind front (codes "too late ") t ⊎ StandsBehind front (codes "too early ") t ⊎ StandsBehind front (codes "turned away by ") t
+
+-- behind its front a line t tells a machine's smallest setup margin as a part of its period, or that the period is 0; or that the circuit is turned away
+abbrev pub RatioLine : (front : List ℕ) → Machine → (turned_away : Bool) → (t : List ℕ) → Type 0
+RatioLine front m true t = StandsBehind front (codes "turned away by ") t
+RatioLine front m false t = (x : Option Float) × IsSetupRatio m x × (words : List ℕ) × IsWords x words × (t ≡ front ++ (words ++ (10 ∷ [])))

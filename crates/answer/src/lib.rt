@@ -7,7 +7,7 @@ ghost use Rattle.slack.specs.Margin.{AreSmallest};
 ghost use Rattle.text.specs.Meaning.{drafted};
 ghost use Rattle.wording.specs.Line.{StandsBehind};
 ghost use Rattle.wording.specs.Words.{titled};
-ghost use Rattle.answer.specs.Line.{LineSays, PeriodLine};
+ghost use Rattle.answer.specs.Line.{LineSays, PeriodLine, RatioLine};
 ghost use Rattle.text.specs.Reader.{listed, placed_of};
 ghost use Rattle.answer.specs.Said.{machine_of, HasNumbers, PassedIf, PeriodIf, RefusedFirst, Taken, line_about, TurnedAwayIf};
 
@@ -33,6 +33,13 @@ pub struct Said {
 pub struct Paced {
     pub line: String,
     pub period: Option<u64>,
+}
+
+/// The line on a circuit's smallest setup margin as a part of its period, and whether the circuit is turned away.
+#[derive(Drop)]
+pub struct Rated {
+    pub line: String,
+    pub turned_away: bool,
 }
 
 // The circuit that was read, where it is not turned away.
@@ -164,6 +171,28 @@ pub fn period(heap: Global, listing: &Listing) -> Result<Paced, fmt::Error>
         Err(refused) => Ok(Paced {
             line: turned_away(heap, name, refused)?,
             period: None,
+        }),
+    }
+}
+
+/// The line on a circuit's smallest setup margin as a part of its period.
+pub fn ratio(heap: Global, listing: &Listing) -> Result<Rated, fmt::Error>
+    ensures away { IfOk result (λ a. TurnedAwayIf (drafted listing.now.draft) a.turned_away) }
+    ensures line { IfOk result (λ a. RatioLine (titled (vec_items listing.now.draft.name))
+        (machine_of (drafted listing.now.draft)) a.turned_away (string_bytes a.line)) }
+{
+    let name = &listing.draft.name;
+    match circuit(listing) {
+        Ok(circuit) => {
+            let words = near::in_words(heap, near::setup_ratio(circuit))?;
+            Ok(Rated {
+                line: wording::line(heap, name, Word::Ratio(&words))?,
+                turned_away: false,
+            })
+        }
+        Err(refused) => Ok(Rated {
+            line: turned_away(heap, name, refused)?,
+            turned_away: true,
         }),
     }
 }

@@ -108,6 +108,21 @@ fn put_verdict(object: &mut Object, heap: Global, circuit: Circuit<'_>) -> Resul
     }
 }
 
+// A ratio as a number.
+fn ratio_of(ratio: f64) -> Value
+    ensures { depth (view result) ≤ 0 }
+{
+    Value::from(ratio)
+}
+
+// Puts a circuit's smallest setup margin as a part of its period into an object, where it has a period.
+fn put_ratio(object: &mut Object, circuit: Circuit<'_>) -> Result<(), AllocError> {
+    match near::setup_ratio(circuit) {
+        Some(ratio) => object.put("near", ratio_of(ratio)),
+        None => Ok(()),
+    }
+}
+
 // Puts a circuit's margins and its shortest period into an object.
 fn put_margins(object: &mut Object, heap: Global, circuit: Circuit<'_>) -> Result<(), AllocError> {
     object.put("margin", margin_of(heap, slack::smallest(circuit))?)?;
@@ -138,5 +153,6 @@ pub fn judged(heap: Global, place: Place<'_>, circuit: Circuit<'_>) -> Result<St
     place.put_into(&mut object, heap)?;
     put_verdict(&mut object, heap, circuit)?;
     put_margins(&mut object, heap, circuit)?;
+    put_ratio(&mut object, circuit)?;
     object.line()
 }

@@ -20,6 +20,8 @@ pub(crate) enum Form {
     Paths,
     // Its shortest period.
     Period,
+    // Its smallest setup margin as a part of its period.
+    Near,
     // All that is found, as a report.
     Report,
     // All that is found, as JSON.
@@ -33,6 +35,7 @@ impl Form {
             "--json" => Some(Form::Json),
             "--paths" => Some(Form::Paths),
             "--period" => Some(Form::Period),
+            "--near" => Some(Form::Near),
             "--report" => Some(Form::Report),
             _ => None,
         }
@@ -55,7 +58,7 @@ fn refuse(rt: &HostRuntime, option: &str, wrong: Wrong) -> io::Result<Command> {
     match wrong {
         Wrong::Unknown => eprintln!(rt; "pass: unknown option {option}")?,
         Wrong::Excluded => eprintln!(rt;
-            "pass: --json, --paths, --period and --report exclude one another"
+            "pass: --json, --near, --paths, --period and --report exclude one another"
         )?,
     }
     Ok(Command::Usage)

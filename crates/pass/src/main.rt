@@ -11,7 +11,7 @@ mod passing;
 mod source;
 
 const USAGE: &str =
-    "usage: pass [--json | --paths | --period | --report] [--exit-zero] [--help] [--version] FILE...";
+    "usage: pass [--json | --near | --paths | --period | --report] [--exit-zero] [--help] [--version] FILE...";
 
 const HELP: &str =
     "Passes the circuits of each FILE, in order, or says what stands in the way: a line for each.
@@ -31,6 +31,9 @@ const HELP: &str =
   FILE          a text of circuits; - is standard input
   --json        print for each circuit an object of JSON on a line of its own, which
                 docs/JSON.md describes
+  --near        print for each circuit its smallest setup margin as a part of the period,
+                below 0 where an input comes too late: smallest setup margin 0.15 of the
+                period; or no period, where that is 0; the hold time is not looked at
   --paths       after the word on a circuit tell, step by step, the path to the register that
                 it names, and those to the registers with the smallest margin of each kind
   --period      print for each circuit the shortest period with which no input comes too
@@ -42,9 +45,9 @@ const HELP: &str =
   --help        print this and end
   --version     print the version and end
 
-Status 0 if every circuit is passed, or with --period if none is turned away; else 1. A file
-that cannot be read, that has a fault in its text, or that has no circuit is an error: it is
-told on standard error, and the status is 2 in any case.";
+Status 0 if every circuit is passed, or with --near or --period if none is turned away; else 1.
+A file that cannot be read, that has a fault in its text, or that has no circuit is an error:
+it is told on standard error, and the status is 2 in any case.";
 
 const VERSION: &str = "pass (muleminute) 0.1.0";
 

@@ -95,13 +95,20 @@ impl<'a> Source<'a> {
         Ok(Outcome::of(paced.period.is_some()))
     }
 
+    // Its smallest setup margin as a part of its period, and what was found.
+    fn tell_ratio(self, heap: Global, out: &mut String) -> Result<Outcome, fmt::Error> {
+        let rated = answer::ratio(heap, self.draft, self.text, self.before)?;
+        out.push_str(&rated.line)?;
+        Ok(Outcome::of(!rated.turned_away))
+    }
+
     // All else that is told of it, with the line that is said.
     fn put(self, heap: Global, form: Form, line: &str, out: &mut String) -> fmt::Result {
         match form {
             Form::Json => self.put_json(heap, out),
             Form::Report => self.put_report(heap, line, out),
             Form::Paths => self.put_paths(line, out),
-            Form::Words | Form::Period => Ok(out.push_str(line)?),
+            Form::Words | Form::Period | Form::Near => Ok(out.push_str(line)?),
         }
     }
 
@@ -114,6 +121,9 @@ impl<'a> Source<'a> {
     ) -> Result<Outcome, fmt::Error> {
         if form == Form::Period {
             return self.tell_period(heap, out);
+        }
+        if form == Form::Near {
+            return self.tell_ratio(heap, out);
         }
         let said = answer::answer(heap, self.draft, self.text, self.before)?;
         self.put(heap, form, &said.line, out)?;

@@ -177,6 +177,8 @@ pub enum Word<'a> {
     TurnedAway(Refused),
     // Its shortest period.
     Shortest(u64),
+    // Its smallest setup margin as a part of its period, in words.
+    Ratio(&'a str),
 }
 
 // A word, what it is about and the line's end, put behind what a line says already.
@@ -203,6 +205,7 @@ fn put_word(heap: Global, line: &mut String, word: Word<'_>) -> Result<(), Alloc
         Word::TooEarly(missed) => put(heap, line, "too early ", missed),
         Word::TurnedAway(refused) => put(heap, line, "turned away by ", refused),
         Word::Shortest(period) => put(heap, line, "shortest period ", Shortest(period)),
+        Word::Ratio(words) => writeln!(line, "{words}"),
     }
 }
 

@@ -1,0 +1,5 @@
+mod Rounding
+mod Closest
+mod Nearness
+mod Ratios
+mod Sizes
