@@ -106,14 +106,14 @@ pub fn circuit(listing: &Listing) -> Result<Circuit<'_>, Refused>
 }
 
 // What is said of a circuit that is not turned away.
-fn judge(heap: Global, draft: &Draft, circuit: Circuit<'_>) -> Result<Said, fmt::Error>
-    requires taken { Taken (drafted draft.now) }
-    requires numbers { HasNumbers (drafted draft.now) circuit }
+fn judge(heap: Global, draft: &Draft) -> Result<Said, fmt::Error>
+    requires { Taken (drafted draft.now) }
     ensures line { IfOk result (λ a. LineSays (titled (vec_items draft.now.name)) a.margins (string_bytes a.line)) }
     ensures passed { IfOk result (λ a. PassedIf (drafted draft.now) (is_some a.margins)) }
     ensures margins { IfOk result (λ a. IfSome a.margins (AreSmallest (machine_of (drafted draft.now)))) }
 {
     let mut room = [0; LONGEST_PATH];
+    let circuit = taken(draft);
     let verdict = signoff::verdict_on(circuit, &mut room);
     let room = &room;
     let word = match verdict {
@@ -139,10 +139,10 @@ pub fn answer(heap: Global, listing: &Listing) -> Result<Said, fmt::Error>
     ensures margins { IfOk result (λ a. IfSome a.margins (AreSmallest (machine_of (drafted listing.now.draft)))) }
 {
     let draft = &listing.draft;
-    match circuit(listing) {
-        Ok(circuit) => judge(heap, draft, circuit),
-        Err(refused) => Ok(Said {
-            line: wording::line(heap, &draft.name, Word::TurnedAway(refused))?,
+    match refused(listing) {
+        None => judge(heap, draft),
+        Some(refused) => Ok(Said {
+            line: turned_away(heap, &draft.name, refused)?,
             margins: None,
         }),
     }
@@ -161,18 +161,16 @@ pub fn period(heap: Global, listing: &Listing) -> Result<Paced, fmt::Error>
     ensures period { IfOk result (λ a. PeriodIf (drafted listing.now.draft) a.period) }
 {
     let name = &listing.draft.name;
-    match circuit(listing) {
-        Ok(circuit) => {
-            let shortest = slack::shortest_period(circuit);
-            let line = wording::line(heap, name, Word::Shortest(shortest))?;
-            let period = Some(shortest);
-            Ok(Paced { line, period })
-        }
-        Err(refused) => Ok(Paced {
+    if let Some(refused) = refused(listing) {
+        return Ok(Paced {
             line: turned_away(heap, name, refused)?,
             period: None,
-        }),
+        });
     }
+    let shortest = slack::shortest_period(taken(&listing.draft));
+    let line = wording::line(heap, name, Word::Shortest(shortest))?;
+    let period = Some(shortest);
+    Ok(Paced { line, period })
 }
 
 /// The line on a circuit's smallest setup margin as a part of its period.
@@ -182,17 +180,15 @@ pub fn ratio(heap: Global, listing: &Listing) -> Result<Rated, fmt::Error>
         (machine_of (drafted listing.now.draft)) a.turned_away (string_bytes a.line)) }
 {
     let name = &listing.draft.name;
-    match circuit(listing) {
-        Ok(circuit) => {
-            let words = near::in_words(heap, near::setup_ratio(circuit))?;
-            Ok(Rated {
-                line: wording::line(heap, name, Word::Ratio(&words))?,
-                turned_away: false,
-            })
-        }
-        Err(refused) => Ok(Rated {
+    if let Some(refused) = refused(listing) {
+        return Ok(Rated {
             line: turned_away(heap, name, refused)?,
             turned_away: true,
-        }),
+        });
     }
+    let words = near::in_words(heap, near::setup_ratio(taken(&listing.draft)))?;
+    Ok(Rated {
+        line: wording::line(heap, name, Word::Ratio(&words))?,
+        turned_away: false,
+    })
 }
