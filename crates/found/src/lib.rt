@@ -9,7 +9,7 @@ use lines::Words;
 
 // Which word of a line is looked for.
 #[derive(Clone, Copy)]
-enum Sought {
+enum Wanted {
     // The one at a place, counted from 0.
     At(usize),
     // The first behind the line's first that is no number, but at the place of a table's name if there is one.
@@ -18,27 +18,27 @@ enum Sought {
     NoBit,
 }
 
-impl Sought {
+impl Wanted {
     // Whether a word at a place is the one.
     fn is(self, place: usize, word: &[u8]) -> bool {
         match self {
-            Sought::At(n) => place == n,
-            Sought::NoNumber(table) => {
+            Wanted::At(n) => place == n,
+            Wanted::NoNumber(table) => {
                 place > 0 && table != Some(place) && lines::value(word).is_err()
             }
-            Sought::NoBit => place > 0 && !matches!(lines::value(word), Ok(0 | 1)),
+            Wanted::NoBit => place > 0 && !matches!(lines::value(word), Ok(0 | 1)),
         }
     }
 }
 
 // The first word of a line that is looked for.
-fn first(line: &[u8], sought: Sought) -> Option<&[u8]>
+fn first(line: &[u8], wanted: Wanted) -> Option<&[u8]>
     ensures { IfSome result (λ w. Contains (words line.now) w.now) }
 {
     let mut words = Words::new(line);
     let mut place: usize = 0;
     while let Some(word) = words.next() {
-        if sought.is(place, word) {
+        if wanted.is(place, word) {
             return Some(word);
         }
         place = place.saturating_add(1);
@@ -55,32 +55,32 @@ fn table_at(line: &[u8]) -> Option<usize> {
 }
 
 // A word that is no bit: of a line `start` the first, else the one behind a moment or cycle and a register.
-fn no_bit(line: &[u8]) -> Sought {
+fn no_bit(line: &[u8]) -> Wanted {
     match lines::word(line) {
-        Some((word, _)) if lines::same(word, b"start") => Sought::NoBit,
-        _ => Sought::At(3),
+        Some((word, _)) if lines::same(word, b"start") => Wanted::NoBit,
+        _ => Wanted::At(3),
     }
 }
 
 // Whether a line has a third word.
 fn has_third(line: &[u8]) -> bool {
-    first(line, Sought::At(2)).is_some()
+    first(line, Wanted::At(2)).is_some()
 }
 
 // Which word of a line stands where another was expected.
-fn sought(line: &[u8], expected: Expected) -> Option<Sought> {
+fn place_of(line: &[u8], expected: Expected) -> Option<Wanted> {
     match expected {
         Expected::Circuit
         | Expected::Statement
         | Expected::FirstWord
         | Expected::Claim
-        | Expected::Once(_) => Some(Sought::At(0)),
-        Expected::Name if has_third(line) => Some(Sought::At(2)),
-        Expected::Name | Expected::Nothing | Expected::NoEarlier(_) => Some(Sought::At(1)),
-        Expected::Register => Some(Sought::At(2)),
-        Expected::Table => Some(Sought::At(3)),
+        | Expected::Once(_) => Some(Wanted::At(0)),
+        Expected::Name if has_third(line) => Some(Wanted::At(2)),
+        Expected::Name | Expected::Nothing | Expected::NoEarlier(_) => Some(Wanted::At(1)),
+        Expected::Register => Some(Wanted::At(2)),
+        Expected::Table => Some(Wanted::At(3)),
         Expected::Number | Expected::Small | Expected::Whole => {
-            Some(Sought::NoNumber(table_at(line)))
+            Some(Wanted::NoNumber(table_at(line)))
         }
         Expected::Bit => Some(no_bit(line)),
         Expected::After(_)
@@ -98,5 +98,5 @@ pub fn found(line: &[u8], expected: Expected) -> Option<&[u8]>
     ensures { IfSome result (λ w. Contains (words (bare line.now)) w.now) }
 {
     let line = lines::bare(line);
-    first(line, sought(line, expected)?)
+    first(line, place_of(line, expected)?)
 }
