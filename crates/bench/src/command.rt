@@ -1,7 +1,7 @@
 // What the command line asks for.
 use crate::halt::Trouble;
-use std::alloc::AllocError;
-use std::{env, io};
+use input::arguments;
+use std::io;
 
 // A run, or some, of the circuit of one file with what another tells.
 #[derive(Clone, Copy)]
@@ -185,13 +185,15 @@ fn refuse<'a>(rt: &HostRuntime, arg: &str, wrong: Wrong) -> io::Result<Command<'
 
 // The arguments of the command line.
 pub(crate) fn given(rt: &HostRuntime) -> Result<Vec<String>, Trouble> {
-    let mut all = Vec::new(rt.alloc());
-    for arg in env::args(rt)?.skip(1) {
-        if all.push(arg).is_err() {
-            return Err(Trouble::Memory(AllocError));
+    match arguments(rt) {
+        Ok(mut all) => {
+            if !all.is_empty() {
+                let _ = all.remove(0);
+            }
+            Ok(all)
         }
+        Err(e) => Err(Trouble::Arguments(e)),
     }
-    Ok(all)
 }
 
 impl<'a> Command<'a> {

@@ -1,28 +1,26 @@
 // The two files: a circuit, and what is told to it.
-ghost use Rattle.text.specs.Meaning.{drafted};
-ghost use Rattle.answer.specs.Said.{Taken};
-
 use crate::command::Task;
-use circuit::{Circuit, Numbers, Register};
-use fields::Fault;
+use circuit::{Circuit, Register};
+use fields::{Expected, Fault};
+use found::found;
+use input::{Cut, Feed, Misread, Next};
 use script::{Entry, Script};
-use std::alloc::Global;
-use std::{fmt, io};
-use text::Draft;
-
-// A circuit that was read, and its text.
-#[derive(Drop)]
-pub(crate) struct Source {
-    pub(crate) text: Vec<u8>,
-    pub(crate) draft: Draft,
-}
+use std::alloc::{AllocError, Global};
+use std::io::Read;
+use std::os::unix::fs::MetadataExt;
+use std::{fmt, fs, io};
+use text::Listing;
 
 // What is wrong with a file.
-#[derive(Clone, Copy)]
+#[derive(Drop)]
 pub(crate) enum Flaw {
     // It cannot be read or written.
     Unusable(io::Error),
-    Fault(Fault),
+    // A fault of its text, with the word that stands there.
+    Fault(Fault, Option<String>),
+    // On this line there is what no text has.
+    Misread(usize, Misread),
+    Memory,
     NoCircuit,
     // Another circuit begins on this line.
     MoreCircuits(usize),
@@ -31,6 +29,8 @@ pub(crate) enum Flaw {
     PastEnd(usize),
     // There is no number from which runs are made.
     NoRandom,
+    // What is written would stand in the place of what is read.
+    Overwrites,
 }
 
 impl From<io::Error> for Flaw {
@@ -39,9 +39,9 @@ impl From<io::Error> for Flaw {
     }
 }
 
-impl From<Fault> for Flaw {
-    fn from(fault: Fault) -> Flaw {
-        Flaw::Fault(fault)
+impl From<AllocError> for Flaw {
+    fn from(_: AllocError) -> Flaw {
+        Flaw::Memory
     }
 }
 
@@ -50,7 +50,10 @@ impl fmt::Display for Flaw {
     fn fmt<W: fmt::Write>(&self, f: &mut fmt::Formatter<W>) -> fmt::Result {
         match self {
             Flaw::Unusable(e) => write!(f, " {e}"),
-            Flaw::Fault(fault) => fault.fmt(f),
+            Flaw::Fault(fault, None) => fault.fmt(f),
+            Flaw::Fault(fault, Some(word)) => write!(f, "{fault}, found {word}"),
+            Flaw::Misread(line, misread) => write!(f, "{line}: {misread}"),
+            Flaw::Memory => f.write_str(" memory is short"),
             Flaw::NoCircuit => f.write_str(" no circuit: expected one"),
             Flaw::MoreCircuits(line) => write!(f, "{line}: expected just one circuit"),
             Flaw::NoCycle => f.write_str(" no cycle: nothing would be looked at"),
@@ -58,51 +61,98 @@ impl fmt::Display for Flaw {
                 f,
                 "{line}: expected a cycle that begins before the run's end"
             ),
+            Flaw::Overwrites => f.write_str(" --vcd would overwrite what is read"),
             Flaw::NoRandom => f.write_str(" no line `random`: --trials needs one"),
         }
     }
 }
 
-// There is no circuit in the rest of a text, before which there were so many lines.
-fn look_for_end(heap: Global, rest: &[u8], before: usize) -> Result<(), Flaw> {
-    match text::read(heap, rest) {
-        Ok(None) => Ok(()),
-        Ok(Some(more)) => Err(Flaw::MoreCircuits(more.draft.line.saturating_add(before))),
-        Err(Fault { line, expected }) => {
-            let line = line.saturating_add(before);
-            Err(Flaw::Fault(Fault { line, expected }))
+// A fault of a text, with the word of its line that stands there.
+fn flaw_of(heap: Global, fault: Fault, line: &[u8]) -> Result<Flaw, AllocError> {
+    if fault.expected == Expected::Memory {
+        return Ok(Flaw::Memory);
+    }
+    let word = match found(line, fault.expected) {
+        Some(word) => Some(format!(in heap; "{}", Cut(word))?),
+        None => None,
+    };
+    Ok(Flaw::Fault(fault, word))
+}
+
+// What takes a text line by line.
+trait Taker {
+    fn take(&mut self, heap: Global, text: &[u8], line: usize) -> Result<(), Flaw>;
+}
+
+// One circuit, and no more.
+#[derive(Drop)]
+struct OneCircuit {
+    reader: text::Reader,
+    listing: Option<Listing>,
+}
+
+impl Taker for OneCircuit {
+    fn take(&mut self, heap: Global, text: &[u8], line: usize) -> Result<(), Flaw> {
+        match self.reader.line(heap, text, line) {
+            Ok(Some(listing)) => self.listing = Some(listing),
+            Ok(None) if self.listing.is_some() && self.reader.is_inside() => {
+                return Err(Flaw::MoreCircuits(line));
+            }
+            Ok(None) => {}
+            Err(fault) => return Err(flaw_of(heap, fault, text)?),
+        }
+        Ok(())
+    }
+}
+
+impl Taker for delays::Reader {
+    fn take(&mut self, heap: Global, text: &[u8], line: usize) -> Result<(), Flaw> {
+        match self.line(text, line) {
+            Ok(()) => Ok(()),
+            Err(fault) => Err(flaw_of(heap, fault, text)?),
         }
     }
 }
 
-// The one circuit of a text.
-fn read_one(heap: Global, bytes: &[u8]) -> Result<Draft, Flaw> {
-    let Some(read) = text::read(heap, bytes)? else {
-        return Err(Flaw::NoCircuit);
-    };
-    look_for_end(heap, read.rest.text, read.rest.number.saturating_sub(1))?;
-    Ok(read.draft)
+// Takes all lines of a reader; answers the number of the line before which its text ends.
+fn take_all<R: Read + Drop, T: Taker>(
+    heap: Global,
+    reader: R,
+    taker: &mut T,
+) -> Result<usize, Flaw> {
+    let mut feed = Feed::new(heap, reader);
+    for _ in 0..u64::MAX {
+        match feed.next() {
+            Ok(Next::Line) => taker.take(heap, feed.line(), feed.number())?,
+            Ok(Next::Nothing) => feed.more()?,
+            Ok(Next::End) => break,
+            Err(Misread::Memory) => return Err(Flaw::Memory),
+            Err(misread) => return Err(Flaw::Misread(feed.number(), misread)),
+        }
+    }
+    Ok(feed.number())
+}
+
+// The same of a file, or of standard input where its name is `-`.
+fn take_file<T: Taker>(rt: &HostRuntime, path: &str, taker: &mut T) -> Result<usize, Flaw> {
+    if path == "-" {
+        return take_all(rt.alloc(), rt.reader(), taker);
+    }
+    take_all(rt.alloc(), fs::open(rt, path)?, taker)
 }
 
 // The one circuit of a file.
-pub(crate) fn read_circuit(rt: &HostRuntime, path: &str) -> Result<Source, Flaw> {
-    let text = input::read_all(rt, path)?;
-    let draft = read_one(rt.alloc(), &text)?;
-    Ok(Source { text, draft })
-}
-
-// The circuit of numbers that are not turned away.
-pub(crate) fn taken(draft: &Draft) -> Circuit<'_>
-    requires { Taken (drafted draft.now) }
-{
-    let Ok(circuit) = Circuit::try_from(Numbers {
-        gates: &draft.gates,
-        registers: &draft.registers,
-        times: &draft.times,
-    }) else {
-        unreachable!()
+pub(crate) fn read_circuit(rt: &HostRuntime, path: &str) -> Result<Listing, Flaw> {
+    let mut one = OneCircuit {
+        reader: text::Reader::new(),
+        listing: None,
     };
-    circuit
+    let line = take_file(rt, path, &mut one)?;
+    if one.reader.is_inside() {
+        let expected = Expected::End;
+        return Err(Flaw::Fault(Fault { line, expected }, None));
+    }
+    one.listing.ok_or(Flaw::NoCircuit)
 }
 
 // The first clock of a cycle that begins after the run's end. Whether it comes after the one before it would take longer to
@@ -124,7 +174,7 @@ fn past_end(circuit: Circuit<'_>, script: &Script) -> Option<Entry> {
 }
 
 // Why what is told to a circuit is not enough for a run, or for as many as are asked for.
-fn flaw_of(task: &Task<'_>, circuit: Circuit<'_>, script: &Script) -> Option<Flaw> {
+fn flaw_of_script(task: &Task<'_>, circuit: Circuit<'_>, script: &Script) -> Option<Flaw> {
     if script.cycles == 0 {
         return Some(Flaw::NoCycle);
     }
@@ -143,10 +193,32 @@ pub(crate) fn read_script(
     task: &Task<'_>,
     circuit: Circuit<'_>,
 ) -> Result<Script, Flaw> {
-    let text = input::read_all(rt, task.delays)?;
-    let script = delays::read(rt.alloc(), &text, circuit.register_count())?;
-    match flaw_of(task, circuit, &script) {
+    let mut reader = delays::Reader::new(rt.alloc(), circuit.register_count());
+    let line = take_file(rt, task.delays, &mut reader)?;
+    let script = match reader.finish(line) {
+        Ok(script) => script,
+        Err(fault) => return Err(Flaw::Fault(fault, None)),
+    };
+    match flaw_of_script(task, circuit, &script) {
         Some(flaw) => Err(flaw),
         None => Ok(script),
     }
+}
+
+// Whether two names are of one file, however they are spelled.
+fn is_same_file(rt: &HostRuntime, one: &str, two: &str) -> bool {
+    match (fs::metadata(rt, one), fs::metadata(rt, two)) {
+        (Ok(one), Ok(two)) => one.is_file() && one.dev() == two.dev() && one.ino() == two.ino(),
+        _ => false,
+    }
+}
+
+// The name of a file, that of standard input where it is `-`.
+fn path_of(name: &str) -> &str {
+    if name == "-" { "/dev/stdin" } else { name }
+}
+
+// Whether a file is one of the two that are read.
+pub(crate) fn is_read(rt: &HostRuntime, task: &Task<'_>, path: &str) -> bool {
+    is_same_file(rt, path, path_of(task.circuit)) || is_same_file(rt, path, path_of(task.delays))
 }

@@ -81,6 +81,7 @@ fn print_cycles(
         let number = done + 1;
         first = first.or(go_on(rt, bench, watch, beside, number)?);
         let cycle = Cycle { number, watch };
+        beside.progress.clear(rt);
         println!(rt; "{cycle}")?;
     }
     Ok(first)
@@ -239,8 +240,10 @@ pub(crate) fn make_runs(
         dump: None,
         progress,
     };
-    match task.trials {
-        None => { make_run(rt, task, Bench { circuit, script }, &mut beside).map(Ended::Run) }
-        Some(runs) => { try_runs(rt, task, circuit, script, &mut beside, runs).map(Ended::Runs) }
-    }
+    let ended = match task.trials {
+        None => make_run(rt, task, Bench { circuit, script }, &mut beside).map(Ended::Run),
+        Some(runs) => try_runs(rt, task, circuit, script, &mut beside, runs).map(Ended::Runs),
+    };
+    beside.progress.clear(rt);
+    ended
 }

@@ -1,5 +1,6 @@
 // Why a run, or the program, does not come to its end.
 use circuit::Refusal;
+use input::BadArguments;
 use std::alloc::AllocError;
 use std::{fmt, io};
 use trial::Stop;
@@ -14,6 +15,17 @@ pub(crate) enum Trouble {
     Words(fmt::Error),
     // What is found cannot be told.
     Untold(io::Error),
+    Arguments(BadArguments),
+}
+
+impl Trouble {
+    // Whether what is found cannot be told since nobody reads on.
+    pub(crate) fn is_closed_pipe(self) -> bool {
+        match self {
+            Trouble::Untold(e) => e.kind() == io::ErrorKind::BrokenPipe,
+            _ => false,
+        }
+    }
 }
 
 impl From<AllocError> for Trouble {
@@ -41,6 +53,7 @@ impl fmt::Display for Trouble {
             Trouble::Memory(e) => e.fmt(f),
             Trouble::Words(e) => e.fmt(f),
             Trouble::Untold(e) => e.fmt(f),
+            Trouble::Arguments(e) => e.fmt(f),
         }
     }
 }

@@ -1,18 +1,20 @@
 // bench: lets a circuit go through time, moment by moment, and looks at every register after every cycle.
 #![tactic(auto)]
 
-use answer::{Title, TurnedAway};
+use answer::{Refused, Title, TurnedAway};
 use circuit::{Circuit, Refusal};
 use clocks::Bench;
 use command::{About, Command, Task, given};
-use given::{Flaw, Source, read_circuit, read_script, taken};
+use given::{Flaw, is_read, read_circuit, read_script};
 use going::make_runs;
 use halt::{Halt, Trouble};
+use input::Escaped;
 use outcome::{Outcome, TROUBLE};
 use report::{Ended, OnLine, Why};
 use script::Script;
 use std::io;
 use std::process::ExitCode;
+use text::Listing;
 
 mod command;
 mod given;
@@ -58,7 +60,7 @@ const VERSION: &str = "bench (muleminute) 0.1.0";
 
 // The flaw of a file is told.
 fn tell(rt: &HostRuntime, path: &str, flaw: Flaw) -> io::Result<Outcome> {
-    eprintln!(rt; "bench: {path}:{flaw}")?;
+    eprintln!(rt; "bench: {}:{flaw}", Escaped(path))?;
     Ok(Outcome::Unsound)
 }
 
@@ -124,23 +126,29 @@ fn read_and_go(
 }
 
 // The line on which a circuit that was read is turned away.
-fn tell_turned_away(rt: &HostRuntime, line: &str) -> io::Result<Outcome> {
+fn tell_turned_away(rt: &HostRuntime, name: &[u8], refused: Refused) -> Result<Outcome, Trouble> {
+    let line = answer::turned_away(rt.alloc(), name, refused)?;
     rt.write_all(line.as_bytes())?;
     Ok(Outcome::TurnedAway)
 }
 
 // A circuit that was read is turned away, or goes.
-fn answer_for(rt: &HostRuntime, task: &Task<'_>, source: &Source) -> Result<Outcome, Trouble> {
-    let Source { text, draft } = source;
-    match answer::turned_away(rt.alloc(), draft, text, 0)? {
-        Some(line) => Ok(tell_turned_away(rt, &line)?),
-        None => read_and_go(rt, task, &draft.name, taken(draft)),
+fn answer_for(rt: &HostRuntime, task: &Task<'_>, listing: &Listing) -> Result<Outcome, Trouble> {
+    let name = &listing.draft.name;
+    match answer::circuit(listing) {
+        Ok(circuit) => read_and_go(rt, task, name, circuit),
+        Err(refused) => tell_turned_away(rt, name, refused),
     }
 }
 
 fn bench(rt: &HostRuntime, task: &Task<'_>) -> Result<Outcome, Trouble> {
+    if let Some(vcd) = task.vcd {
+        if is_read(rt, task, vcd) {
+            return Ok(tell(rt, vcd, Flaw::Overwrites)?);
+        }
+    }
     match read_circuit(rt, task.circuit) {
-        Ok(source) => answer_for(rt, task, &source),
+        Ok(listing) => answer_for(rt, task, &listing),
         Err(flaw) => Ok(tell(rt, task.circuit, flaw)?),
     }
 }
@@ -182,9 +190,17 @@ fn run(rt: &HostRuntime) -> Result<ExitCode, Trouble> {
     obey(rt, &args)
 }
 
+// What ends the program is told, unless nobody reads on what it prints.
+fn tell_trouble(rt: &HostRuntime, trouble: Trouble) -> ExitCode {
+    if !trouble.is_closed_pipe() {
+        let _ = eprintln!(rt; "bench: {trouble}");
+    }
+    ExitCode::from(TROUBLE)
+}
+
 fn main(rt: HostRuntime) -> ExitCode {
-    run(&rt).unwrap_or_else(|e| {
-        let _ = eprintln!(rt; "bench: {e}");
-        ExitCode::from(TROUBLE)
-    })
+    match run(&rt) {
+        Ok(status) => status,
+        Err(trouble) => tell_trouble(&rt, trouble),
+    }
 }

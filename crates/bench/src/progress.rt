@@ -1,11 +1,12 @@
-// How far a long run is, told on standard error.
+// How far a long run is, told on standard error, where that is a terminal, on one line that is written again and again.
+use std::io::IsTerminal;
 use std::time::Instant;
 use std::{fmt, io};
 
 // Moments between two looks at the clock.
 const BETWEEN: u32 = 256;
 
-// Seconds between two lines that tell it.
+// Seconds between two times that it is told.
 const EACH: u64 = 1;
 
 // A run of several: which, and of how many.
@@ -25,19 +26,22 @@ impl fmt::Display for Which {
     }
 }
 
-// When it was told last, or when the first run began; nothing where it is not to be told.
+// When it was told last, or when the first run began; nothing where it is not to be told. And whether it stands on the line.
 #[derive(Clone, Copy)]
 pub(crate) struct Progress {
     since: Option<Instant>,
+    stands: bool,
     moments: u32,
     pub(crate) run: Option<OneOf>,
 }
 
 impl Progress {
     pub(crate) fn new(rt: &HostRuntime, quiet: bool) -> io::Result<Progress> {
-        let since = if quiet { None } else { Some(Instant::now(rt)?) };
+        let told = !quiet && rt.stderr().is_terminal();
+        let since = if told { Some(Instant::now(rt)?) } else { None };
         Ok(Progress {
             since,
+            stands: false,
             moments: 0,
             run: None,
         })
@@ -61,8 +65,17 @@ impl Progress {
         if self.is_due(rt)? {
             let run = Which(self.run);
             // A run goes on where nobody can be told how far it is.
-            let _ = eprintln!(rt; "bench: {run}{done} of {cycles} cycles");
+            let _ = eprint!(rt; "\r\u{1b}[Kbench: {run}{done} of {cycles} cycles");
+            self.stands = true;
         }
         Ok(())
+    }
+
+    // Takes it off the line, before another is printed.
+    pub(crate) fn clear(&mut self, rt: &HostRuntime) {
+        if self.stands {
+            let _ = eprint!(rt; "\r\u{1b}[K");
+            self.stands = false;
+        }
     }
 }

@@ -13,8 +13,9 @@ const COLLECTED: usize = 60_000;
 
 const HEADER: &str = "$version muleminute bench $end
 $comment
-r0, g2: the signal of a register or a gate, by its number. clock_r0: the clock comes to the register.
-any_r0: the register may show anything. lost_r0: its signal did not keep still, so it holds anything.
+r0, g2: the signal of a register or a gate, by its number. clock_r0: 1 at each moment at which the
+clock comes to the register. any_r0: the register may show anything. lost_r0: 1 at each moment at which
+it takes its signal and this did not keep still, so that it holds anything.
 $end
 $timescale 1 ps $end
 $scope module circuit $end
@@ -40,23 +41,23 @@ fn signal(k: usize, registers: usize) -> Variable {
     Variable(if k < registers { "r" } else { "g" }, k)
 }
 
-fn declare(text: &mut String, kind: &str, variable: Variable) -> Result<(), AllocError> {
-    writeln!(text, "$var {kind} 1 {variable} {variable} $end")?;
+fn declare(text: &mut String, variable: Variable) -> Result<(), AllocError> {
+    writeln!(text, "$var wire 1 {variable} {variable} $end")?;
     Ok(())
 }
 
 // What is told of a register beside its signal.
 fn declare_register(text: &mut String, r: usize) -> Result<(), AllocError> {
-    declare(text, "event", Variable("clock_r", r))?;
-    declare(text, "wire", Variable("any_r", r))?;
-    declare(text, "event", Variable("lost_r", r))
+    declare(text, Variable("clock_r", r))?;
+    declare(text, Variable("any_r", r))?;
+    declare(text, Variable("lost_r", r))
 }
 
 // What stands before the first moment.
 fn declare_all(text: &mut String, registers: usize, signals: usize) -> Result<(), AllocError> {
     text.push_str(HEADER)?;
     for k in 0..signals {
-        declare(text, "wire", signal(k, registers))?;
+        declare(text, signal(k, registers))?;
     }
     for r in 0..registers {
         declare_register(text, r)?;
@@ -78,16 +79,12 @@ fn change(
     Ok(())
 }
 
-// Something that happens at a moment.
-fn happens(text: &mut String, event: Variable) -> Result<(), AllocError> {
-    writeln!(text, "1{event}")?;
-    Ok(())
-}
-
 // What is kept of a register between moments.
 #[derive(Clone, Copy)]
 struct Register {
+    clock: Option<bool>,
     any: Option<bool>,
+    lost: Option<bool>,
     ticks: Ticks,
 }
 
@@ -101,15 +98,12 @@ impl Register {
         trial: &Trial<'_>,
         t: u64,
     ) -> Result<(), AllocError> {
-        if self.ticks.comes(bench, t) {
-            happens(text, Variable("clock_r", r))?;
-        }
+        let comes = self.ticks.comes(bench, t);
+        change(text, &mut self.clock, comes, Variable("clock_r", r))?;
         let any = trial.shows_anything(r);
         change(text, &mut self.any, any, Variable("any_r", r))?;
-        if trial.takes_anything(r) {
-            happens(text, Variable("lost_r", r))?;
-        }
-        Ok(())
+        let lost = trial.takes_anything(r);
+        change(text, &mut self.lost, lost, Variable("lost_r", r))
     }
 }
 
@@ -125,7 +119,9 @@ fn kept_of(heap: Global, bench: Bench<'_>) -> Result<Vec<Register>, AllocError> 
     let mut kept = Vec::new(heap);
     for r in 0..bench.circuit.register_count() {
         kept.push(Register {
+            clock: None,
             any: None,
+            lost: None,
             ticks: Ticks::new(bench, r),
         })?;
     }
@@ -183,7 +179,7 @@ fn beginning(heap: Global, bench: Bench<'_>) -> Result<String, AllocError> {
 }
 
 impl Dump {
-    // The beginning of the dump of a run.
+    // The beginning of the dump of a run, which is written out at once, so that a run that is cut off leaves what can be read.
     pub(crate) fn new(rt: &HostRuntime, path: &str, bench: Bench<'_>) -> Result<Dump, Halt> {
         let heap = rt.alloc();
         let file = match fs::create(rt, path) {
@@ -192,12 +188,14 @@ impl Dump {
         };
         let text = beginning(heap, bench)?;
         let kept = Kept::new(heap, bench)?;
-        Ok(Dump {
+        let mut dump = Dump {
             file,
             text,
             changes: String::new(heap),
             kept,
-        })
+        };
+        dump.flush()?;
+        Ok(dump)
     }
 
     // Moment `t`, which has just gone.

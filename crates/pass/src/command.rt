@@ -1,5 +1,5 @@
 // What the command line asks for.
-use std::{env, io};
+use std::io;
 
 #[derive(Clone, Copy)]
 pub(crate) enum Command {
@@ -109,15 +109,6 @@ impl Asked {
             },
         }
     }
-}
-
-// The arguments of the command line.
-pub(crate) fn arguments(rt: &HostRuntime) -> anyhow::Result<Vec<String>> {
-    let mut all = Vec::new(rt.alloc());
-    for arg in env::args(rt)?.skip(1) {
-        all.push(arg)?;
-    }
-    Ok(all)
 }
 
 impl Command {

@@ -1,7 +1,8 @@
 // pass: passes the circuits of files, or names what stands in their way.
 #![tactic(auto)]
 
-use command::{Command, Form, arguments, is_option};
+use command::{Command, Form, is_option};
+use input::{Escaped, arguments};
 use passing::{Flaw, pass_reader};
 use std::process::ExitCode;
 use std::{fs, io};
@@ -97,7 +98,7 @@ fn pass_file(rt: &HostRuntime, form: Form, path: &str) -> Result<Outcome, Flaw> 
 
 // Why not all of a file could be answered for is told.
 fn tell(rt: &HostRuntime, path: &str, flaw: Flaw) -> io::Result<Outcome> {
-    eprintln!(rt; "pass: {path}:{flaw}")?;
+    eprintln!(rt; "pass: {}:{flaw}", Escaped(path))?;
     Ok(Outcome::Unsound)
 }
 
@@ -146,14 +147,27 @@ fn obey(rt: &HostRuntime, args: &[String]) -> io::Result<ExitCode> {
     }
 }
 
-fn run(rt: &HostRuntime) -> anyhow::Result<ExitCode> {
-    let args = arguments(rt)?;
-    Ok(obey(rt, &args)?)
+// What ends the program is told, unless nobody reads on what it prints.
+fn tell_trouble(rt: &HostRuntime, e: io::Error) -> ExitCode {
+    if e.kind() != io::ErrorKind::BrokenPipe {
+        let _ = eprintln!(rt; "pass: {e}");
+    }
+    ExitCode::from(TROUBLE)
 }
 
 fn main(rt: HostRuntime) -> ExitCode {
-    run(&rt).unwrap_or_else(|e| {
-        let _ = eprintln!(rt; "pass: {e}");
-        ExitCode::from(TROUBLE)
-    })
+    let mut args = match arguments(&rt) {
+        Ok(args) => args,
+        Err(e) => {
+            let _ = eprintln!(rt; "pass: {e}");
+            return ExitCode::from(TROUBLE);
+        }
+    };
+    if !args.is_empty() {
+        let _ = args.remove(0);
+    }
+    match obey(&rt, &args) {
+        Ok(status) => status,
+        Err(e) => tell_trouble(&rt, e),
+    }
 }

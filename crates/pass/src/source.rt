@@ -1,60 +1,35 @@
 // A circuit that was read, and what is told of it.
-ghost use Rattle.text.specs.Meaning.{drafted};
-ghost use Rattle.answer.specs.Said.{Taken};
-
 use crate::Outcome;
 use crate::command::Form;
-use answer::Refused;
 use as_json::Place;
-use circuit::{Circuit, Numbers};
 use std::alloc::{AllocError, Global};
 use std::fmt;
 use std::fmt::Write;
-use text::Draft;
+use text::Listing;
 
-// A circuit that was read: the name of its file, what it was read from, and the number of lines before that.
+// A circuit that was read, and the name of its file.
 #[derive(Clone, Copy)]
 pub(crate) struct Source<'a> {
     pub(crate) file: &'a str,
-    pub(crate) draft: &'a Draft,
-    pub(crate) text: &'a [u8],
-    pub(crate) before: usize,
-}
-
-// The circuit of numbers that are not turned away.
-fn taken(draft: &Draft) -> Circuit<'_>
-    requires { Taken (drafted draft.now) }
-{
-    let Ok(circuit) = Circuit::try_from(Numbers {
-        gates: &draft.gates,
-        registers: &draft.registers,
-        times: &draft.times,
-    }) else {
-        unreachable!()
-    };
-    circuit
+    pub(crate) listing: &'a Listing,
 }
 
 impl<'a> Source<'a> {
+    fn name(self) -> &'a [u8] {
+        &self.listing.draft.name
+    }
+
     fn place(self) -> Place<'a> {
         Place {
             file: self.file,
-            name: &self.draft.name,
-            line: self.draft.line.saturating_add(self.before),
-        }
-    }
-
-    // The circuit, or why it is turned away.
-    fn circuit(self) -> Result<Circuit<'a>, Refused> {
-        match answer::refused(self.draft, self.text, self.before) {
-            Some(refused) => Err(refused),
-            None => Ok(taken(self.draft)),
+            name: self.name(),
+            line: self.listing.draft.line,
         }
     }
 
     // All that is found, as JSON.
     fn json(self, heap: Global) -> Result<String, AllocError> {
-        match self.circuit() {
+        match answer::circuit(self.listing) {
             Ok(circuit) => as_json::judged(heap, self.place(), circuit),
             Err(refused) => as_json::turned_away(heap, self.place(), refused),
         }
@@ -69,10 +44,10 @@ impl<'a> Source<'a> {
 
     // The report on it; or, where it is turned away, the line that says so as a comment.
     fn put_report(self, heap: Global, line: &str, out: &mut String) -> fmt::Result {
-        let Ok(circuit) = self.circuit() else {
+        let Ok(circuit) = answer::circuit(self.listing) else {
             return Ok(write!(out, "# {line}")?);
         };
-        match report::write(heap, &self.draft.name, circuit) {
+        match report::write(heap, self.name(), circuit) {
             Ok(report) => Ok(out.push_str(&report)?),
             // A name that was read can be read again, so memory is short.
             Err(_) => Err(fmt::Error),
@@ -82,7 +57,7 @@ impl<'a> Source<'a> {
     // The line on it, and paths where it has some.
     fn put_paths(self, line: &str, out: &mut String) -> fmt::Result {
         out.push_str(line)?;
-        match self.circuit() {
+        match answer::circuit(self.listing) {
             Ok(circuit) => path_table::put(out, circuit),
             Err(_) => Ok(()),
         }
@@ -90,14 +65,14 @@ impl<'a> Source<'a> {
 
     // Its shortest period, and what was found.
     fn tell_period(self, heap: Global, out: &mut String) -> Result<Outcome, fmt::Error> {
-        let paced = answer::period(heap, self.draft, self.text, self.before)?;
+        let paced = answer::period(heap, self.listing)?;
         out.push_str(&paced.line)?;
         Ok(Outcome::of(paced.period.is_some()))
     }
 
     // Its smallest setup margin as a part of its period, and what was found.
     fn tell_ratio(self, heap: Global, out: &mut String) -> Result<Outcome, fmt::Error> {
-        let rated = answer::ratio(heap, self.draft, self.text, self.before)?;
+        let rated = answer::ratio(heap, self.listing)?;
         out.push_str(&rated.line)?;
         Ok(Outcome::of(!rated.turned_away))
     }
@@ -125,7 +100,7 @@ impl<'a> Source<'a> {
         if form == Form::Near {
             return self.tell_ratio(heap, out);
         }
-        let said = answer::answer(heap, self.draft, self.text, self.before)?;
+        let said = answer::answer(heap, self.listing)?;
         self.put(heap, form, &said.line, out)?;
         Ok(Outcome::of(said.margins.is_some()))
     }
