@@ -38,7 +38,8 @@ module _ (e : Edge) (m : Machine) (k : ℕ) where
   abbrev pub AreRows : ℕ → List (List Entry) → Type 0
   AreRows n rows = (length rows ≡ n) × ((j : ℕ) → j < n → IsRow j (slice_index_or rows j []))
 
-  -- an entry for the path p that ends at a register: which register, and at which rank it stands in the row of the register's signal
+  -- an entry for the path p that ends at a register: which register, and at which rank it stands in the row of the
+  -- register's signal
   pub record IsEndEntry (x : Entry) (p : RegisterPath) : Type 0 where
     pub is_time : x.time ≡ shifted_arrival e m 1000000 p
     pub below : x.by < m.registers

@@ -33,7 +33,9 @@ pub record AreFigures (e : Edge) (m : Machine) (f : Figures) : Type 0 where
 
 -- a machine that is well formed is passed exactly if it has no violation of either kind
 abbrev pub PassedByFigures : Type 0
-PassedByFigures = (m : Machine) → Formed m → Passed m ↔ ((violations Late m m.registers ≡ 0) × (violations Early m m.registers ≡ 0))
+PassedByFigures =
+    (m : Machine) →
+    Formed m → Passed m ↔ ((violations Late m m.registers ≡ 0) × (violations Early m m.registers ≡ 0))
 
 -- the sum is 0 exactly if there is no violation
 abbrev pub TotalOfNone : Type 0

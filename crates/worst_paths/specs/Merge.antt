@@ -10,7 +10,8 @@ merge second zero xs ys = []
 merge second (suc k) [] [] = []
 merge second (suc k) [] (y ∷ ys) = y ∷ merge second k [] ys
 merge second (suc k) (x ∷ xs) [] = x ∷ merge second k xs []
-merge second (suc k) (x ∷ xs) (y ∷ ys) = cond (second x y) (y ∷ merge second k (x ∷ xs) ys) (x ∷ merge second k xs (y ∷ ys))
+merge second (suc k) (x ∷ xs) (y ∷ ys) =
+    cond (second x y) (y ∷ merge second k (x ∷ xs) ys) (x ∷ merge second k xs (y ∷ ys))
 
 -- of two entries only the second's time is worse
 abbrev pub second_of : Edge → Entry → Entry → Bool
@@ -23,7 +24,8 @@ next_of e [] (y ∷ ys) = Some true
 next_of e (x ∷ xs) [] = Some false
 next_of e (x ∷ xs) (y ∷ ys) = Some (second_of e x y)
 
--- the entries that a row gives to a gate or a register: each later by d, and named by the input or register and by its rank, from i on
+-- the entries that a row gives to a gate or a register: each later by d, and named by the input or the register and by
+-- its rank, from i on
 unfoldable pub offered : (by d i : ℕ) → List Entry → List Entry
 offered by d i [] = []
 offered by d i (x ∷ xs) = record { time = x.time + d; by = by; rank = i } ∷ offered by d (suc i) xs

@@ -1,5 +1,6 @@
 -- The worst paths of a machine: the first k of the paths that end at registers, the smallest slack first.
-use Rattle.std.specs.Prelude.{◌≡◌, ℕ, ◌+◌, ◌<◌, ◌≤◌, true, false, ◌⊎◌, ℤ, pos, ◌-ℤ◌, ◌<ℤ◌, List, [], ◌∷◌, length, slice_index_or, ◌↔◌, ◌≤ℤ◌}
+use Rattle.std.specs.Prelude.{◌≡◌, ℕ, ◌+◌, ◌<◌, ◌≤◌, true, false, ◌⊎◌, ◌↔◌, List, [], ◌∷◌, length, slice_index_or}
+use Rattle.std.specs.Prelude.{ℤ, pos, ◌-ℤ◌, ◌<ℤ◌, ◌≤ℤ◌}
 use Rattle.std.specs.List.{All, Contains}
 use Rattle.arrival.specs.declared.edge.Edge.{Edge}
 use Rattle.arrival.specs.declared.edge.Edge.TheVariants.{Late, Early}
@@ -28,7 +29,8 @@ launch_time Early m = still_for m
 abbrev pub arrival_of : Edge → Machine → RegisterPath → ℕ
 arrival_of e m p = launch_time e m p.source + sum e m.circuit p.steps
 
--- the slack of register r, were the arrival time of its signal t: required less arrival, or for the earliest time arrival less required
+-- the slack of register r, were the arrival time of its signal t: required less arrival, or for the earliest times
+-- arrival less required
 abbrev pub slack_at : Edge → Machine → (r t : ℕ) → ℤ
 slack_at Late m r t = required_of Late m r -ℤ pos t
 slack_at Early m r t = pos t -ℤ required_of Early m r
@@ -47,7 +49,8 @@ Precedes (x ∷ p) (y ∷ q) = ((x.1 ≡ false) × (y.1 ≡ true)) ⊎ ((x.1 ≡
 abbrev pub IsBefore : Edge → Machine → RegisterPath → RegisterPath → Type 0
 IsBefore e m a b =
     (slack_of e m a <ℤ slack_of e m b)
-    ⊎ ((slack_of e m a ≡ slack_of e m b) × ((a.register < b.register) ⊎ ((a.register ≡ b.register) × Precedes a.steps b.steps)))
+    ⊎ ((slack_of e m a ≡ slack_of e m b)
+    × ((a.register < b.register) ⊎ ((a.register ≡ b.register) × Precedes a.steps b.steps)))
 
 -- xs are the first k of those that P, in the order B, or all of them where there are no more
 pub record AreFirst {X : Type 0} (B : X → X → Type 0) (P : X → Type 0) (k : ℕ) (xs : List X) : Type 0 where
@@ -70,23 +73,29 @@ OrderIsTotal =
 
 -- there is just one list of the k worst paths
 abbrev pub OneList : Type 0
-OneList = (e : Edge) (m : Machine) (k : ℕ) (xs ys : List RegisterPath) → WorstPaths e m k xs → WorstPaths e m k ys → xs ≡ ys
+OneList =
+    (e : Edge) (m : Machine) (k : ℕ) (xs ys : List RegisterPath) →
+    WorstPaths e m k xs → WorstPaths e m k ys → xs ≡ ys
 
 -- no path stands in it twice
 abbrev pub EachOnce : Type 0
 EachOnce =
-    (e : Edge) (m : Machine) (k i j : ℕ) (d : RegisterPath) (xs : List RegisterPath) → WorstPaths e m k xs → i < length xs → j < length xs →
+    (e : Edge) (m : Machine) (k i j : ℕ) (d : RegisterPath) (xs : List RegisterPath) →
+    WorstPaths e m k xs → i < length xs → j < length xs →
     slice_index_or xs i d ≡ slice_index_or xs j d → i ≡ j
 
 -- of two paths to one signal that precedes which the order of paths with the signal's own time puts ahead
 abbrev pub PrecedesIsAhead : Type 0
-PrecedesIsAhead = (c : Circuit) (i j : ℕ) (p q : Steps) (k : ℕ) → Leads c i p k → Leads c j q k → Ahead p q ↔ ((p ≡ q) ⊎ Precedes p q)
+PrecedesIsAhead =
+    (c : Circuit) (i j : ℕ) (p q : Steps) (k : ℕ) →
+    Leads c i p k → Leads c j q k → Ahead p q ↔ ((p ≡ q) ⊎ Precedes p q)
 
--- THE FIRST PATH ends at the register with the smallest margin, its slack is that margin, and it is the path that is written of the
--- register's signal
+-- THE FIRST PATH ends at the register with the smallest margin, its slack is that margin, and it is the path that is
+-- written of the register's signal
 abbrev pub FirstIsWorst : Type 0
 FirstIsWorst =
-    (e : Edge) (m : Machine) (k : ℕ) (w : RegisterPath) (ws : List RegisterPath) → Formed m → WorstPaths e m k (w ∷ ws) →
+    (e : Edge) (m : Machine) (k : ℕ) (w : RegisterPath) (ws : List RegisterPath) →
+    Formed m → WorstPaths e m k (w ∷ ws) →
     IsWorst e m m.registers (record { register = w.register; margin = slack_of e m w })
     × Told e m.circuit (launch_time e m) (m.takes w.register) w.source w.steps
 
@@ -96,15 +105,18 @@ pub record IsFirstAtRegister (xs : List RegisterPath) (i : ℕ) (d p : RegisterP
   pub is : slice_index_or xs i d ≡ p
   pub first : (j : ℕ) → j < i → (slice_index_or xs j d).register ≡ p.register → ⊥
 
--- OF THE PATHS TO ONE REGISTER the first is the path that is written of the register's signal, and its slack is the register's margin
+-- OF THE PATHS TO ONE REGISTER the first is the path that is written of the register's signal, and its slack is the
+-- register's margin
 abbrev pub FirstAtRegister : Type 0
 FirstAtRegister =
-    (e : Edge) (m : Machine) (k i : ℕ) (d p : RegisterPath) (xs : List RegisterPath) → Formed m → WorstPaths e m k xs → IsFirstAtRegister xs i d p →
+    (e : Edge) (m : Machine) (k i : ℕ) (d p : RegisterPath) (xs : List RegisterPath) →
+    Formed m → WorstPaths e m k xs → IsFirstAtRegister xs i d p →
     (slack_of e m p ≡ margin_of e m p.register)
     × Told e m.circuit (launch_time e m) (m.takes p.register) p.source p.steps
 
 -- a machine that is well formed is passed exactly if neither kind's first path has a slack below 0
 abbrev pub PassedByPaths : Type 0
 PassedByPaths =
-    (m : Machine) (j k : ℕ) (v w : RegisterPath) (vs ws : List RegisterPath) → Formed m → WorstPaths Late m j (v ∷ vs) → WorstPaths Early m k (w ∷ ws) →
+    (m : Machine) (j k : ℕ) (v w : RegisterPath) (vs ws : List RegisterPath) →
+    Formed m → WorstPaths Late m j (v ∷ vs) → WorstPaths Early m k (w ∷ ws) →
     Passed m ↔ ((pos 0 ≤ℤ slack_of Late m v) × (pos 0 ≤ℤ slack_of Early m w))

@@ -18,7 +18,7 @@ pub enum WorstError {
 }
 
 impl WorstError {
-    /// Its number in the list of refusals, and its place, which is the number of paths that were asked for; None for want of memory.
+    /// Its number in the list of refusals, and its place, the number of paths asked for; None for want of memory.
     pub fn refusal(self) -> Option<(u32, usize)>
         ensures { result ≡ refusal_of self }
     {

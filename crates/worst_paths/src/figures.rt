@@ -53,8 +53,8 @@ fn negatives(circuit: Circuit<'_>, edge: Edge, slacks: &[i64]) -> (usize, i64)
     (violations, total)
 }
 
-/// How many registers have a slack below 0 of the kind that belongs to the latest or the earliest times, the smallest slack, and the
-/// sum of those below 0.
+/// How many registers have a slack below 0, the smallest slack, and the sum of those below 0: of setup slacks, which
+/// belong to the latest times, or of hold slacks, which belong to the earliest.
 pub fn figures_of(circuit: Circuit<'_>, edge: Edge) -> Figures
     ensures { AreFigures edge (of circuit.entry machine_in) result }
 {

@@ -1,8 +1,9 @@
-//! The worst paths of a circuit: those that end at registers, with the smallest slack first, and the figures of all slacks.
+//! The worst paths of a circuit, those that end at registers with the smallest slack first, and the figures of its slacks.
 #![tactic(auto)]
 
 ghost use Rattle.worst_paths.specs.Figures.{PassedByFigures, TotalOfNone};
-ghost use Rattle.worst_paths.specs.WorstPaths.{OrderIsTotal, OneList, EachOnce, PrecedesIsAhead, FirstIsWorst, FirstAtRegister, PassedByPaths};
+ghost use Rattle.worst_paths.specs.WorstPaths.{OrderIsTotal, OneList, EachOnce, PrecedesIsAhead};
+ghost use Rattle.worst_paths.specs.WorstPaths.{FirstIsWorst, FirstAtRegister, PassedByPaths};
 
 mod entry;
 mod error;
@@ -47,16 +48,16 @@ pub fn precedes_is_ahead() -> u8
     0
 }
 
-/// The first path ends at the register with the smallest margin, has that margin as its slack, and is the path that crate `path`
-/// writes of that register's signal.
+/// The first path ends at the register with the smallest margin, has that margin as its slack, and is the path that
+/// crate `path` writes of that register's signal.
 pub fn first_is_worst() -> u8
     ensures { FirstIsWorst }
 {
     0
 }
 
-/// Of the paths that end at one register the first is the path that crate `path` writes of its signal, and its slack is the
-/// register's margin.
+/// Of the paths that end at one register the first is the path that crate `path` writes of its signal, and its slack is
+/// the register's margin.
 pub fn first_at_register() -> u8
     ensures { FirstAtRegister }
 {

@@ -1,5 +1,5 @@
 // The worst paths that end at registers.
-ghost use Rattle.std.specs.Prelude.{◌≡◌, ◌^◌, ◌<◌, ◌≤◌, IfOk, IfErr, length, map, vec_items, pos, ◌-ℤ◌, ◌+ℤ◌, ◌<ℤ◌, ◌≤ℤ◌};
+ghost use Rattle.std.specs.Prelude.{◌≡◌, ◌^◌, ◌<◌, IfOk, IfErr, length, map, vec_items, pos, ◌+ℤ◌, ◌<ℤ◌, ◌≤ℤ◌};
 ghost use Rattle.std.specs.List.{All};
 ghost use Rattle.circuit.specs.Checked.{of, registers_of, signals_of};
 ghost use Rattle.circuit.specs.Lent.{takes};
@@ -62,7 +62,8 @@ fn path_at(
 ) -> Result<TimingPath, AllocError>
     requires rows { AreRows edge (of circuit machine_in) k (signals_of circuit) (map vec_items rows.now) }
     requires below { entry.by < registers_of circuit }
-    requires ranked { entry.rank < length (paths_to edge (of circuit machine_in) k (takes circuit.registers.now entry.by)) }
+    requires ranked { entry.rank
+        < length (paths_to edge (of circuit machine_in) k (takes circuit.registers.now entry.by)) }
     ensures path { IfOk result (λ p. path_of p ≡ ending_at entry.by
         (ranked edge (of circuit.entry machine_in) k (takes circuit.entry.registers.now entry.by) entry)) }
     ensures times { IfOk result (HasItsTimes edge (of circuit.entry machine_in)) }
@@ -102,10 +103,10 @@ fn listed(
     Ok(paths)
 }
 
-/// The `k` worst paths that end at registers: for the latest times those with the smallest setup slack, for the earliest those with
-/// the smallest hold slack, the smallest slack first; all of them where there are fewer. Of equal ones the lower register comes
-/// first, and of one register's the path that comes in by the first input where it parts from the other, looking back from the
-/// register. From 1 to 100 paths are listed; other numbers are refused.
+/// The `k` worst paths that end at registers, the smallest slack first: for the latest times the setup slack, for the
+/// earliest the hold slack. All of them where there are fewer. A path counts once for each register that takes its end.
+/// Of equal ones the lower register comes first, and of one register's the path that comes in by the first input where
+/// it parts from the other, looking back from the register. From 1 to 100 paths are listed; other numbers are refused.
 ///
 /// At most `k` entries of 16 bytes are kept for each signal.
 pub fn worst(

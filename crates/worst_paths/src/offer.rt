@@ -5,8 +5,8 @@ ghost use Rattle.std.specs.Option.{ForSome};
 
 use crate::entry::Entry;
 
-/// The entries of a row as they are given to a gate or a register: each later by a delay, and named by the input or the register
-/// and by its rank; or as they are.
+/// The entries of a row as they are given to a gate or a register: each later by a delay, and named by the input or the
+/// register and by its rank; or as they are.
 #[derive(Clone, Copy)]
 pub(crate) struct Offer<'a> {
     pub(crate) row: &'a [Entry],

@@ -69,7 +69,8 @@ fn gate_row(
 ) -> Result<Vec<Entry>, AllocError>
     requires inside { g < gates_of circuit }
     requires rows { AreRows edge (of circuit machine_in) k (registers_of circuit + g) (map vec_items rows.now) }
-    ensures { IfOk result (λ v. IsRow edge (of circuit.entry machine_in) k (registers_of circuit.entry + g) (vec_items v)) }
+    ensures { IfOk result (λ v.
+        IsRow edge (of circuit.entry machine_in) k (registers_of circuit.entry + g) (vec_items v)) }
 {
     let gate = Gate::from(circuit.gates()[g]);
     let (first, second) = edge.delays(gate);
@@ -93,7 +94,8 @@ pub(crate) fn all_rows(
     edge: Edge,
     k: u32,
 ) -> Result<Vec<Vec<Entry>>, AllocError>
-    ensures { IfOk result (λ v. AreRows edge (of circuit.entry machine_in) k (signals_of circuit.entry) (map vec_items (vec_items v))) }
+    ensures { IfOk result (λ v.
+        AreRows edge (of circuit.entry machine_in) k (signals_of circuit.entry) (map vec_items (vec_items v))) }
 {
     let mut rows = Vec::with_capacity(heap, circuit.signal_count())?;
     for r in 0..circuit.register_count() {

@@ -16,7 +16,8 @@ pub struct TimingPath {
     pub source: usize,
     /// The pins by which it goes, from the source on.
     pub pins: Vec<Pin>,
-    /// In picoseconds: required less arrival time, or for the earliest times arrival less required. Below 0 is a violation.
+    /// In picoseconds: required less arrival time, or for the earliest times arrival less required. Below 0 it is a
+    /// violation.
     pub slack: i64,
     /// In picoseconds: the launch time of the source, and the delays along the path.
     pub arrival: u64,

@@ -65,7 +65,8 @@ pub(crate) fn traced_path(
     requires rows { AreRows edge (of circuit machine_in) k (signals_of circuit) (map vec_items rows.now) }
     requires inside { to < signals_of circuit }
     requires ranked { rank < length (paths_to edge (of circuit machine_in) k to) }
-    ensures { IfOk result (λ t. trace_of t ≡ slice_index_or (paths_to edge (of circuit.entry machine_in) k to) rank no_path) }
+    ensures { IfOk result (λ t.
+        trace_of t ≡ slice_index_or (paths_to edge (of circuit.entry machine_in) k to) rank no_path) }
 {
     let n = circuit.register_count();
     let mut at = to;

@@ -26,6 +26,6 @@ returns c =
     let inside = taken_of c.args.circuit c.args.r c.requires.inside in
     let here : c.from-register.result.signal < signals_of c.args.circuit = omega arith in
     let row = row_at c.args.edge c.args.circuit c.args.k _ _ c.args.rows.now _ c.requires.rows here c.index-rows-register.is in
+    let one : c.args.r + 1 ≡ suc c.args.r = omega arith in
     let more = end_row c.args.edge (of c.args.circuit machine_in) c.args.k (sound_of c.args.circuit) c.args.r c.shift.result c.args.ends.now _ c.requires.inside c.shift.ensures c.requires.ends (rw is at row) in
-    let one : c.args.r + 1 ≡ suc c.args.r = add-one in
     if_ok _ _ c.merge.result (λ v h. rw h (rw (c.deref.ensures.value, one) more)) c.merge.ensures
