@@ -13,8 +13,10 @@ use serde_json::Value;
 use signoff::{LONGEST_PATH, Miss, Verdict};
 use slack::Smallest;
 use std::alloc::{AllocError, Global};
+use worst_paths::TimingPath;
 
 mod object;
+mod worst;
 
 // Where a circuit stands: its file, its name, empty where it has none, and the line where it begins.
 #[derive(Clone, Copy)]
@@ -130,13 +132,38 @@ pub fn turned_away(heap: Global, place: Place<'_>, refused: Refused) -> Result<S
     object.line()
 }
 
+// Puts all that is found of a circuit into an object.
+fn put_judged(
+    object: &mut Object,
+    heap: Global,
+    place: Place<'_>,
+    circuit: Circuit<'_>,
+) -> Result<(), AllocError> {
+    place.put_into(object, heap)?;
+    put_verdict(object, heap, circuit)?;
+    put_margins(object, heap, circuit)
+}
+
 // The line on a circuit that is not, without its end: JSON.
 pub fn judged(heap: Global, place: Place<'_>, circuit: Circuit<'_>) -> Result<String, AllocError>
     ensures { IfOk result (λ line. IsSome (read (string_bytes line))) }
 {
     let mut object = Object::new(heap);
-    place.put_into(&mut object, heap)?;
-    put_verdict(&mut object, heap, circuit)?;
-    put_margins(&mut object, heap, circuit)?;
+    put_judged(&mut object, heap, place, circuit)?;
+    object.line()
+}
+
+/// The line on a circuit that is not turned away, with some of its worst paths, without its end: JSON.
+pub fn judged_with_worst(
+    heap: Global,
+    place: Place<'_>,
+    circuit: Circuit<'_>,
+    paths: &[TimingPath],
+) -> Result<String, AllocError>
+    ensures { IfOk result (λ line. IsSome (read (string_bytes line))) }
+{
+    let mut object = Object::new(heap);
+    put_judged(&mut object, heap, place, circuit)?;
+    object.put("worst", worst::paths_of(heap, circuit, paths)?)?;
     object.line()
 }
