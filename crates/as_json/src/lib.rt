@@ -132,25 +132,24 @@ pub fn turned_away(heap: Global, place: Place<'_>, refused: Refused) -> Result<S
     object.line()
 }
 
-// Puts all that is found of a circuit into an object.
-fn put_judged(
-    object: &mut Object,
+// All that is found of a circuit, as an object.
+fn judged_object(
     heap: Global,
     place: Place<'_>,
     circuit: Circuit<'_>,
-) -> Result<(), AllocError> {
-    place.put_into(object, heap)?;
-    put_verdict(object, heap, circuit)?;
-    put_margins(object, heap, circuit)
+) -> Result<Object, AllocError> {
+    let mut object = Object::new(heap);
+    place.put_into(&mut object, heap)?;
+    put_verdict(&mut object, heap, circuit)?;
+    put_margins(&mut object, heap, circuit)?;
+    Ok(object)
 }
 
 // The line on a circuit that is not, without its end: JSON.
 pub fn judged(heap: Global, place: Place<'_>, circuit: Circuit<'_>) -> Result<String, AllocError>
     ensures { IfOk result (λ line. IsSome (read (string_bytes line))) }
 {
-    let mut object = Object::new(heap);
-    put_judged(&mut object, heap, place, circuit)?;
-    object.line()
+    judged_object(heap, place, circuit)?.line()
 }
 
 /// The line on a circuit that is not turned away, with some of its worst paths, without its end: JSON.
@@ -162,8 +161,7 @@ pub fn judged_with_worst(
 ) -> Result<String, AllocError>
     ensures { IfOk result (λ line. IsSome (read (string_bytes line))) }
 {
-    let mut object = Object::new(heap);
-    put_judged(&mut object, heap, place, circuit)?;
+    let mut object = judged_object(heap, place, circuit)?;
     object.put("worst", worst::paths_of(heap, circuit, paths)?)?;
     object.line()
 }

@@ -3,7 +3,7 @@ ghost use Rattle.text.specs.Meaning.{drafted};
 ghost use Rattle.answer.specs.Said.{Taken};
 
 use crate::Outcome;
-use crate::command::Form;
+use crate::command::{Form, Layout, Worst};
 use answer::Refused;
 use as_json::Place;
 use circuit::{Circuit, Numbers};
@@ -88,6 +88,41 @@ impl<'a> Source<'a> {
         }
     }
 
+    // The line on it, and tables of its worst paths.
+    fn put_worst_tables(
+        self,
+        heap: Global,
+        worst: Worst,
+        line: &str,
+        out: &mut String,
+    ) -> fmt::Result {
+        out.push_str(line)?;
+        let Ok(circuit) = self.circuit() else {
+            return Ok(());
+        };
+        let Ok(paths) = worst_paths::worst(heap, circuit, worst.edge, worst.paths) else {
+            return Err(fmt::Error);
+        };
+        path_table::put_worst(out, circuit, worst.edge, &paths)?;
+        if worst.layout == Layout::Steps {
+            path_table::put_steps(out, circuit, worst.edge, &paths)?;
+        }
+        Ok(())
+    }
+
+    // All that is found and its worst paths, as a line of JSON.
+    fn put_worst_json(self, heap: Global, worst: Worst, out: &mut String) -> fmt::Result {
+        let Ok(circuit) = self.circuit() else {
+            return self.put_json(heap, out);
+        };
+        let Ok(paths) = worst_paths::worst(heap, circuit, worst.edge, worst.paths) else {
+            return Err(fmt::Error);
+        };
+        let json = as_json::judged_with_worst(heap, self.place(), circuit, &paths)?;
+        out.push_str(&json)?;
+        Ok(out.push_str("\n")?)
+    }
+
     // Its shortest period, and what was found.
     fn tell_period(self, heap: Global, out: &mut String) -> Result<Outcome, fmt::Error> {
         let paced = answer::period(heap, self.draft, self.text, self.before)?;
@@ -101,6 +136,10 @@ impl<'a> Source<'a> {
             Form::Json => self.put_json(heap, out),
             Form::Report => self.put_report(heap, line, out),
             Form::Paths => self.put_paths(line, out),
+            Form::Worst(worst) if worst.layout == Layout::Json => {
+                self.put_worst_json(heap, worst, out)
+            }
+            Form::Worst(worst) => self.put_worst_tables(heap, worst, line, out),
             Form::Words | Form::Period => Ok(out.push_str(line)?),
         }
     }
