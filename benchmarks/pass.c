@@ -133,6 +133,8 @@ static void answer(const struct circuit *c) {
     printf("passed, margin %" PRId64 " and %" PRId64 "\n", setup, hold);
 }
 
+static void (*answer_circuit)(const struct circuit *) = answer;
+
 static void answer_file(const char *name) {
     static struct circuit c;
     FILE *f = fopen(name, "rb");
@@ -165,7 +167,7 @@ static void answer_file(const char *name) {
             row(from, stop, c.times, 5, -1, line);
             c.k++;
         } else if (same(w, length, "end")) {
-            answer(&c);
+            answer_circuit(&c);
             inside = 0;
         } else {
             fault(line, "expected a statement");

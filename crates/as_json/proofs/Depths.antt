@@ -25,6 +25,6 @@ still (Ok u) k d before after n ok err p q = rw ok (after_put k d _ n p q)
 still (Err e) k d before after n ok err p q = rw err q
 
 -- an item more
-pub after_push : (vs : List Value) (v : Value) → items_depth (items_view vs) ≤ 0 → depth (view v) ≤ 0 → items_depth (items_view (vs ++ v ∷ [])) ≤ 0
-after_push [] v p q = omega arith
-after_push (w ∷ vs) v p q = omega (arith, after_push vs v (omega arith) q)
+pub after_push : (n : ℕ) (vs : List Value) (v : Value) → items_depth (items_view vs) ≤ n → depth (view v) ≤ n → items_depth (items_view (vs ++ v ∷ [])) ≤ n
+after_push n [] v p q = omega arith
+after_push n (w ∷ vs) v p q = omega (arith, after_push n vs v (omega arith) q)

@@ -13,8 +13,10 @@ use serde_json::Value;
 use signoff::{LONGEST_PATH, Miss, Verdict};
 use slack::Smallest;
 use std::alloc::{AllocError, Global};
+use worst_paths::TimingPath;
 
 mod object;
+mod worst;
 
 // Where a circuit stands: its file, its name, empty where it has none, and the line where it begins.
 #[derive(Clone, Copy)]
@@ -145,14 +147,37 @@ pub fn turned_away(heap: Global, place: Place<'_>, refused: Refused) -> Result<S
     object.line()
 }
 
-// The line on a circuit that is not, without its end: JSON.
-pub fn judged(heap: Global, place: Place<'_>, circuit: Circuit<'_>) -> Result<String, AllocError>
-    ensures { IfOk result (λ line. IsSome (read (string_bytes line))) }
-{
+// All that is found of a circuit, as an object.
+fn judged_object(
+    heap: Global,
+    place: Place<'_>,
+    circuit: Circuit<'_>,
+) -> Result<Object, AllocError> {
     let mut object = Object::new(heap);
     place.put_into(&mut object, heap)?;
     put_verdict(&mut object, heap, circuit)?;
     put_margins(&mut object, heap, circuit)?;
     put_ratio(&mut object, circuit)?;
+    Ok(object)
+}
+
+// The line on a circuit that is not, without its end: JSON.
+pub fn judged(heap: Global, place: Place<'_>, circuit: Circuit<'_>) -> Result<String, AllocError>
+    ensures { IfOk result (λ line. IsSome (read (string_bytes line))) }
+{
+    judged_object(heap, place, circuit)?.line()
+}
+
+/// The line on a circuit that is not turned away, with some of its worst paths, without its end: JSON.
+pub fn judged_with_worst(
+    heap: Global,
+    place: Place<'_>,
+    circuit: Circuit<'_>,
+    paths: &[TimingPath],
+) -> Result<String, AllocError>
+    ensures { IfOk result (λ line. IsSome (read (string_bytes line))) }
+{
+    let mut object = judged_object(heap, place, circuit)?;
+    object.put("worst", worst::paths_of(heap, circuit, paths)?)?;
     object.line()
 }

@@ -1,5 +1,5 @@
 // A JSON object that is built key by key.
-ghost use Rattle.std.specs.Prelude.{◌≤◌, IfOk, IsSome, string_bytes};
+ghost use Rattle.std.specs.Prelude.{ℕ, ◌≤◌, IfOk, IsSome, string_bytes};
 ghost use Rattle.serde_json.specs.Data.{depth, members_depth};
 ghost use Rattle.serde_json.specs.Read.{read};
 ghost use Rattle.serde_json.specs.View.{view, members_view};
@@ -7,15 +7,15 @@ ghost use Rattle.serde_json.specs.View.{view, members_view};
 use serde_json::{Map, Value};
 use std::alloc::{AllocError, Global};
 
-// Its members nest no deeper than one level, so that what is written can be read.
+// Its members nest no deeper than three levels, so that what is written can be read.
 #[derive(Drop)]
 pub(crate) struct Object {
     heap: Global,
     map: Map<String, Value>,
-    ghost shallow: { members_depth (members_view map.entries) ≤ 1 },
+    ghost shallow: { members_depth (members_view map.entries) ≤ 3 },
 }
 
-// What an object's members say of it: they are flat where those before were.
+// What an object's members say of it: they nest no deeper than the member that is put and those before.
 impl Object {
     pub(crate) fn new(heap: Global) -> Object
         ensures { members_depth (members_view result.map.entries) ≤ 0 }
@@ -27,20 +27,23 @@ impl Object {
     }
 
     pub(crate) fn put(&mut self, key: &str, value: Value) -> Result<(), AllocError>
-        requires { depth (view value) ≤ 1 }
-        ensures { depth (view value) ≤ 0 → members_depth (members_view self.old.map.entries) ≤ 0 → members_depth (members_view self.new.map.entries) ≤ 0 }
+        requires { depth (view value) ≤ 3 }
+        ensures { (n : ℕ) → depth (view value) ≤ n → members_depth (members_view self.old.map.entries) ≤ n
+            → members_depth (members_view self.new.map.entries) ≤ n }
     {
         serde_json::put(&mut self.map, self.heap, key, value)
     }
 
     pub(crate) fn put_number(&mut self, key: &str, number: u64) -> Result<(), AllocError>
-        ensures { members_depth (members_view self.old.map.entries) ≤ 0 → members_depth (members_view self.new.map.entries) ≤ 0 }
+        ensures { (n : ℕ) → members_depth (members_view self.old.map.entries) ≤ n
+            → members_depth (members_view self.new.map.entries) ≤ n }
     {
         self.put(key, Value::from(number))
     }
 
     pub(crate) fn put_margin(&mut self, key: &str, margin: i64) -> Result<(), AllocError>
-        ensures { members_depth (members_view self.old.map.entries) ≤ 0 → members_depth (members_view self.new.map.entries) ≤ 0 }
+        ensures { (n : ℕ) → members_depth (members_view self.old.map.entries) ≤ n
+            → members_depth (members_view self.new.map.entries) ≤ n }
     {
         self.put(key, Value::from(margin))
     }
@@ -50,10 +53,10 @@ impl Object {
         self.put(key, Value::from(text))
     }
 
-    // The object as a member of another, which it can be if its own are flat.
+    // The object as a value, which nests one level deeper than its members.
     pub(crate) fn into_value(self) -> Value
-        requires { members_depth (members_view self.map.entries) ≤ 0 }
-        ensures { depth (view result) ≤ 1 }
+        ensures flat { members_depth (members_view self.map.entries) ≤ 0 → depth (view result) ≤ 1 }
+        ensures nested { members_depth (members_view self.map.entries) ≤ 1 → depth (view result) ≤ 2 }
     {
         Value::from(self.map)
     }

@@ -1,5 +1,7 @@
 // What the command line asks for.
+use arrival::Edge;
 use std::io;
+use worst_paths::MOST_PATHS;
 
 #[derive(Clone, Copy)]
 pub(crate) enum Command {
@@ -26,6 +28,38 @@ pub(crate) enum Form {
     Report,
     // All that is found, as JSON.
     Json,
+    // Some of its worst paths, with its word or with all that is found.
+    Worst(Worst),
+}
+
+// Which of the worst paths are told, and how.
+#[derive(Clone, Copy, PartialEq)]
+pub(crate) struct Worst {
+    pub(crate) paths: usize,
+    pub(crate) edge: Edge,
+    pub(crate) layout: Layout,
+}
+
+#[derive(Clone, Copy, PartialEq)]
+pub(crate) enum Layout {
+    // As a table.
+    Table,
+    // As a table, and each step by step.
+    Steps,
+    // As JSON.
+    Json,
+}
+
+impl Layout {
+    // How worst paths are told in a form; None where none are.
+    fn of(form: Option<Form>) -> Option<Layout> {
+        match form {
+            None => Some(Layout::Table),
+            Some(Form::Paths) => Some(Layout::Steps),
+            Some(Form::Json) => Some(Layout::Json),
+            Some(_) => None,
+        }
+    }
 }
 
 impl Form {
@@ -46,11 +80,22 @@ pub(crate) fn is_option(arg: &str) -> bool {
     arg.starts_with("-") && arg != "-"
 }
 
+// Whether the argument behind an option belongs to it.
+pub(crate) fn takes_next(arg: &str) -> bool {
+    arg == "--worst"
+}
+
 // Why an option cannot be followed.
 #[derive(Clone, Copy)]
 enum Wrong {
     Unknown,
     Excluded,
+    // No number of paths stands behind `--worst`.
+    Uncounted,
+    // `--early` stands without `--worst`.
+    Alone,
+    // `--worst` stands with a form that tells no paths.
+    NoPaths,
 }
 
 // An option that cannot be followed is told.
@@ -60,6 +105,11 @@ fn refuse(rt: &HostRuntime, option: &str, wrong: Wrong) -> io::Result<Command> {
         Wrong::Excluded => eprintln!(rt;
             "pass: --json, --near, --paths, --period and --report exclude one another"
         )?,
+        Wrong::Uncounted => eprintln!(rt;
+            "pass: --worst needs a number of paths, 1 to {MOST_PATHS}"
+        )?,
+        Wrong::Alone => eprintln!(rt; "pass: --early goes with --worst")?,
+        Wrong::NoPaths => eprintln!(rt; "pass: --worst excludes --near, --period and --report")?,
     }
     Ok(Command::Usage)
 }
@@ -72,10 +122,24 @@ struct Asked {
     // Whether there is a file.
     any: bool,
     form: Option<Form>,
+    worst: Option<usize>,
+    early: bool,
+    // Whether the next argument is the number that belongs to `--worst`.
+    counts: bool,
     exit_zero: bool,
 }
 
 impl Asked {
+    // The number behind `--worst`.
+    fn take_count(&mut self, arg: &str) -> Result<(), Wrong> {
+        self.counts = false;
+        match arg.parse::<usize>() {
+            Ok(paths) if paths > 0 && paths <= MOST_PATHS => self.worst = Some(paths),
+            _ => return Err(Wrong::Uncounted),
+        }
+        Ok(())
+    }
+
     fn take_form(&mut self, option: &str) -> Result<(), Wrong> {
         let Some(told) = Form::of(option) else {
             return Err(Wrong::Unknown);
@@ -89,7 +153,12 @@ impl Asked {
 
     // One argument more.
     fn take(&mut self, arg: &str) -> Result<(), Wrong> {
+        if self.counts {
+            return self.take_count(arg);
+        }
         match arg {
+            "--worst" => self.counts = true,
+            "--early" => self.early = true,
             "--help" => self.instead = Some(Command::Help),
             "--version" => self.instead = self.instead.or(Some(Command::Version)),
             "--exit-zero" => self.exit_zero = true,
@@ -99,15 +168,36 @@ impl Asked {
         Ok(())
     }
 
-    fn command(self) -> Command {
-        match self.instead {
-            Some(command) => command,
-            None if !self.any => Command::Usage,
-            None => Command::Pass {
-                form: self.form.unwrap_or(Form::Words),
-                exit_zero: self.exit_zero,
-            },
+    // What is told of each circuit, if what was read fits together.
+    fn told(self) -> Result<Form, Wrong> {
+        if self.counts {
+            return Err(Wrong::Uncounted);
         }
+        let edge = if self.early { Edge::Early } else { Edge::Late };
+        match self.worst {
+            None if self.early => Err(Wrong::Alone),
+            None => Ok(self.form.unwrap_or(Form::Words)),
+            Some(paths) => {
+                let layout = Layout::of(self.form).ok_or(Wrong::NoPaths)?;
+                Ok(Form::Worst(Worst {
+                    paths,
+                    edge,
+                    layout,
+                }))
+            }
+        }
+    }
+
+    fn command(self) -> Result<Command, Wrong> {
+        if let Some(command) = self.instead {
+            return Ok(command);
+        }
+        let form = self.told()?;
+        if !self.any {
+            return Ok(Command::Usage);
+        }
+        let exit_zero = self.exit_zero;
+        Ok(Command::Pass { form, exit_zero })
     }
 }
 
@@ -119,6 +209,9 @@ impl Command {
             instead: None,
             any: false,
             form: None,
+            worst: None,
+            early: false,
+            counts: false,
             exit_zero: false,
         };
         for arg in args {
@@ -126,6 +219,9 @@ impl Command {
                 return refuse(rt, arg.as_str(), wrong);
             }
         }
-        Ok(asked.command())
+        match asked.command() {
+            Ok(command) => Ok(command),
+            Err(wrong) => refuse(rt, "", wrong),
+        }
     }
 }

@@ -1,7 +1,7 @@
 // pass: passes the circuits of files, or names what stands in their way.
 #![tactic(auto)]
 
-use command::{Command, Form, is_option};
+use command::{Command, Form, is_option, takes_next};
 use input::{Escaped, arguments};
 use passing::{Flaw, pass_reader};
 use std::process::ExitCode;
@@ -12,7 +12,7 @@ mod passing;
 mod source;
 
 const USAGE: &str =
-    "usage: pass [--json | --near | --paths | --period | --report] [--exit-zero] [--help] [--version] FILE...";
+    "usage: pass [--json | --near | --paths | --period | --report] [--worst K [--early]] [--exit-zero] [--help] [--version] FILE...";
 
 const HELP: &str =
     "Passes the circuits of each FILE, in order, or says what stands in the way: a line for each.
@@ -42,6 +42,10 @@ const HELP: &str =
                 changes too early is not looked at
   --report      print for each circuit a text that stands for itself: the circuit, and all that is
                 found of it, which docs/REPORT.md describes
+  --worst K     list the K worst paths that end at registers, 1 to 100, the smallest setup slack
+                first, and below it the worst slack, and how many registers have one below 0 and
+                their sum; with --early by hold slack. With --paths also tell each step by step,
+                with --json as the key `worst`
   --exit-zero   end with status 0 whatever is said of the circuits
   --help        print this and end
   --version     print the version and end
@@ -114,10 +118,12 @@ fn outcome_of(rt: &HostRuntime, form: Form, path: &str) -> io::Result<Outcome> {
 // The worst of what was found in the files.
 fn pass_files(rt: &HostRuntime, form: Form, args: &[String]) -> io::Result<Outcome> {
     let mut worst = Outcome::Passed;
+    let mut belongs = false;
     for arg in args {
-        if !is_option(arg.as_str()) {
+        if !belongs && !is_option(arg.as_str()) {
             worst = worst.max(outcome_of(rt, form, arg.as_str())?);
         }
+        belongs = !belongs && takes_next(arg.as_str());
     }
     Ok(worst)
 }

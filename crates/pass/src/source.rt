@@ -1,6 +1,6 @@
 // A circuit that was read, and what is told of it.
 use crate::Outcome;
-use crate::command::Form;
+use crate::command::{Form, Layout, Worst};
 use as_json::Place;
 use std::alloc::{AllocError, Global};
 use std::fmt;
@@ -63,6 +63,41 @@ impl<'a> Source<'a> {
         }
     }
 
+    // The line on it, and tables of its worst paths.
+    fn put_worst_tables(
+        self,
+        heap: Global,
+        worst: Worst,
+        line: &str,
+        out: &mut String,
+    ) -> fmt::Result {
+        out.push_str(line)?;
+        let Ok(circuit) = answer::circuit(self.listing) else {
+            return Ok(());
+        };
+        let Ok(paths) = worst_paths::worst(heap, circuit, worst.edge, worst.paths) else {
+            return Err(fmt::Error);
+        };
+        path_table::put_worst(out, circuit, worst.edge, &paths)?;
+        if worst.layout == Layout::Steps {
+            path_table::put_steps(out, circuit, worst.edge, &paths)?;
+        }
+        Ok(())
+    }
+
+    // All that is found and its worst paths, as a line of JSON.
+    fn put_worst_json(self, heap: Global, worst: Worst, out: &mut String) -> fmt::Result {
+        let Ok(circuit) = answer::circuit(self.listing) else {
+            return self.put_json(heap, out);
+        };
+        let Ok(paths) = worst_paths::worst(heap, circuit, worst.edge, worst.paths) else {
+            return Err(fmt::Error);
+        };
+        let json = as_json::judged_with_worst(heap, self.place(), circuit, &paths)?;
+        out.push_str(&json)?;
+        Ok(out.push_str("\n")?)
+    }
+
     // Its shortest period, and what was found.
     fn tell_period(self, heap: Global, out: &mut String) -> Result<Outcome, fmt::Error> {
         let paced = answer::period(heap, self.listing)?;
@@ -83,6 +118,10 @@ impl<'a> Source<'a> {
             Form::Json => self.put_json(heap, out),
             Form::Report => self.put_report(heap, line, out),
             Form::Paths => self.put_paths(line, out),
+            Form::Worst(worst) if worst.layout == Layout::Json => {
+                self.put_worst_json(heap, worst, out)
+            }
+            Form::Worst(worst) => self.put_worst_tables(heap, worst, line, out),
             Form::Words | Form::Period | Form::Near => Ok(out.push_str(line)?),
         }
     }

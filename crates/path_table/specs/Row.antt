@@ -1,5 +1,5 @@
 -- What is told of a step of a path.
-use Rattle.std.specs.Prelude.{◌≡◌, ℕ, ◌+◌, ◌<◌, Bool}
+use Rattle.std.specs.Prelude.{◌≡◌, ℕ, ◌+◌, ◌^◌, ◌<◌, Bool}
 use Rattle.circuit.specs.Checked.{of, gates_of, registers_of}
 use Rattle.circuit.specs.Lent.{gate_in}
 use Rattle.circuit.specs.declared.circuit.Circuit as checked
@@ -19,3 +19,11 @@ IsStep e c signal second s =
     (s.signal ≡ signal) × (s.second ≡ second)
     × ((k : ℕ) × IsGate c signal k × (s.delay ≡ delay e second (gate_in c.gates.now k)) × (s.table ≡ (gate_in c.gates.now k).table))
     × (s.time ≡ of c (time_of e) signal)
+
+-- the step goes through gate k by one of its inputs, and has its signal, its table, the delay at that input, and the time
+-- before that delay and the delay together, if it is a time that any path can have
+abbrev pub IsStepOn : Edge → checked.Circuit → (k : ℕ) → (second : Bool) → (before : ℕ) → Step → Type 0
+IsStepOn e c k second before s =
+    (s.second ≡ second) × IsGate c s.signal k
+    × (s.delay ≡ delay e second (gate_in c.gates.now k)) × (s.table ≡ (gate_in c.gates.now k).table)
+    × (before < 2 ^ 63 → s.time ≡ before + s.delay)

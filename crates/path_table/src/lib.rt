@@ -9,6 +9,9 @@ use std::fmt;
 mod shown;
 pub mod steps;
 mod wording;
+mod worst;
+
+pub use worst::{put_steps, put_worst};
 
 // A register, and the sum that is looked at: the one of its latest or of its earliest time.
 #[derive(Clone, Copy, PartialEq)]

@@ -9,7 +9,7 @@ use std::fmt;
 use std::fmt::Write;
 
 // What is told of the sources of paths and of gates: the columns are as wide as the largest circuit's numbers.
-fn put_row(
+pub(crate) fn put_row(
     out: &mut String,
     signal: usize,
     table: &str,
@@ -61,24 +61,25 @@ pub(crate) fn put_head(
     }
 }
 
-// Where a path begins: when the clock comes to the register, and how long its output takes.
-fn put_source(
+// Where a path begins: when the clock comes to the register, and how long its output takes. Answers when it changes.
+pub(crate) fn put_source(
     out: &mut String,
-    a: Arrivals<'_, '_>,
+    circuit: Circuit<'_>,
     edge: Edge,
     register: usize,
-) -> Result<(), AllocError> {
-    let Some(row) = a.circuit.registers().get(register) else {
-        return Ok(());
+) -> Result<u64, AllocError> {
+    let Some(row) = circuit.registers().get(register) else {
+        return Ok(0);
     };
     let Register { early, late, .. } = Register::from(*row);
     let (clock, output) = match edge {
-        Edge::Late => (late, a.circuit.output_late()),
-        Edge::Early => (early, a.circuit.output_early()),
+        Edge::Late => (late, circuit.output_late()),
+        Edge::Early => (early, circuit.output_early()),
     };
     let shown = u64::from(clock) + u64::from(output);
     put_row(out, register, "clock", "", clock, u64::from(clock))?;
-    put_row(out, register, "output", "", output, shown)
+    put_row(out, register, "output", "", output, shown)?;
+    Ok(shown)
 }
 
 // The path, as it was written: its source, then of each gate its signal and the input.
@@ -91,7 +92,7 @@ pub(crate) fn put_path(
     let Some((source, gates)) = path.split_first() else {
         return Ok(());
     };
-    put_source(out, a, edge, *source as usize)?;
+    put_source(out, a.circuit, edge, *source as usize)?;
     for [signal, second] in gates.as_chunks::<2>().0 {
         let Some(step) = step(a, edge, *signal as usize, *second == 1) else {
             return Err(fmt::Error);

@@ -7,4 +7,4 @@ use Rattle.as_json.proofs.object.signals.Goals as goal
 pub loop-i-preserved-in-loop-i : goal.loop-i-preserved-in-loop-i
 loop-i-preserved-in-loop-i c =
     let flat : depth (view c.from.result) ≤ 0 = rw c.from.ensures (omega arith) in
-    rw c.in_ok-push.ensures.ok (after_push c.loop-i.signals.items c.from.result c.loop-i.invariant flat)
+    rw c.in_ok-push.ensures.ok (after_push 0 c.loop-i.signals.items c.from.result c.loop-i.invariant flat)

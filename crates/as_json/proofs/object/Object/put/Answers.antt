@@ -2,7 +2,7 @@ use Rattle.as_json.proofs.Depths.{still}
 use Rattle.as_json.proofs.object.Object.put.Goals as goal
 
 pub invariant_of-self : goal.invariant_of-self
-invariant_of-self c = record { shallow = still c.put.result _ _ _ _ 1 c.put.ensures.ok c.put.ensures.err c.requires c.args.self.now.shallow }
+invariant_of-self c = record { shallow = still c.put.result _ _ _ _ 3 c.put.ensures.ok c.put.ensures.err c.requires c.args.self.now.shallow }
 
 pub returns : goal.returns
-returns c = λ flat_value flat. still c.put.result _ _ _ _ 0 c.put.ensures.ok c.put.ensures.err flat_value flat
+returns c = λ n value members. still c.put.result _ _ _ _ n c.put.ensures.ok c.put.ensures.err value members

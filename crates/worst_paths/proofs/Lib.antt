@@ -1,0 +1,9 @@
+pub mod Order
+pub mod Firsts
+pub mod FirstPathLaws
+pub mod MergingLaws
+pub mod EntryLaws
+pub mod LentRows
+pub mod Traces
+pub mod FirstLaws
+pub mod FigureLaws

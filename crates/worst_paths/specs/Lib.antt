@@ -1,0 +1,10 @@
+pub mod Entries
+pub mod Figures
+pub mod FirstPaths
+pub mod Merge
+pub mod Offers
+pub mod Refused
+pub mod Tally
+pub mod Traced
+pub mod Value
+pub mod WorstPaths
