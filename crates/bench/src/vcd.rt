@@ -15,7 +15,7 @@ const HEADER: &str = "$version muleminute bench $end
 $comment
 r0, g2: the signal of a register or a gate, by its number. clock_r0: 1 at each moment at which the
 clock comes to the register. any_r0: the register may show anything. lost_r0: 1 at each moment at which
-it takes its signal and this did not keep still, so that it holds anything.
+it begins to show a bit that may be anything, since its signal did not keep still.
 $end
 $timescale 1 ps $end
 $scope module circuit $end
