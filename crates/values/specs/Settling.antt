@@ -36,12 +36,13 @@ settled_by one two p q d e = min (cond one (max p e) (max p q)) (cond two (max d
 abbrev pub kept_by : (one two : Bool) → (p q : ℕ) → ℕ
 kept_by one two p q = max (cond one p (min p q)) (cond two q (min p q))
 
--- these two times of a gate whose inputs have the bits x and y, and are settled from a and b on, or kept until then
+-- the time from which on a gate's output is settled, if its inputs have the bits x and y and are settled from a and b on
 abbrev pub gate_settle_time : Gate → (x y : Bool) → (a b : ℕ) → ℕ
 gate_settle_time g x y a b =
     settled_by (is_controlling_one g x) (is_controlling_two g y)
     (a + g.greatest_one) (b + g.greatest_two) g.greatest_one g.greatest_two
 
+-- the time until which it is kept, if its inputs have the bits x and y and are kept until a and b
 abbrev pub gate_keep_time : Gate → (x y : Bool) → (a b : ℕ) → ℕ
 gate_keep_time g x y a b = kept_by (is_controlling_one g x) (is_controlling_two g y) (a + g.least_one) (b + g.least_two)
 
