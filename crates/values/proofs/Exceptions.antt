@@ -9,9 +9,9 @@ use Rattle.drawing.specs.Drawing.{ideal, held}
 use Rattle.arrival.specs.declared.edge.Edge.TheVariants.{Late}
 use Rattle.arrival.specs.Arrival.{arrival}
 use Rattle.arrival.specs.Window.{Wave, Moves}
-use Rattle.path.specs.Path.{Steps, Leads, sum, told}
+use Rattle.path.specs.Path.{Steps, Leads, sum}
 use Rattle.path.proofs.Telling.{told_is_first}
-use Rattle.promise.specs.Machine.{Machine, machine_in, since}
+use Rattle.promise.specs.Machine.{Machine, machine_in, since, last_change}
 use Rattle.promise.specs.Run.{Clocks, Run}
 use Rattle.values.specs.FalsePath.{Sensitizes, IsFalsePath, Violates}
 use Rattle.values.specs.Examples.{GoesWrong}
@@ -68,7 +68,8 @@ short_in_time zero zero p e late = late.2 (rw e (omega arith))
 short_in_time zero (suc i) p e late = absurd (omega (arith, launched _ (suc i) _ p late.1))
 short_in_time (suc r) i p e late = absurd (omega (arith, late.0))
 
-violating : (r i : ℕ) (p : Steps) → Violates pulse r i p → (r ≡ 0) × (i ≡ 0) × ((p ≡ through false) ⊎ (p ≡ through true))
+violating : (r i : ℕ) (p : Steps) → Violates pulse r i p →
+    (r ≡ 0) × (i ≡ 0) × ((p ≡ through false) ⊎ (p ≡ through true))
 unfolding pulse gates_in
 violating zero i p late =
     let source = launched _ i _ p late.1 in
@@ -95,10 +96,15 @@ pulse_excepted = record {
   hold_kept = each 1 _ (omega arith);
   excepted = (
     λ k. (0, through (eqb k 1)),
-    λ r i p late. let l = violating r i p late in elim l.2 [ inl e ↦ (0, omega arith, rw (l.0, e) refl) | inr e ↦ (1, omega arith, rw (l.0, e) refl) ],
+    λ r i p late.
+        let l = violating r i p late in
+        elim l.2 [ inl e ↦ (0, omega arith, rw (l.0, e) refl) | inr e ↦ (1, omega arith, rw (l.0, e) refl) ],
   );
-  are_false = λ r i p late. elim (violating r i p late).2 [ inl e ↦ rw e (false_through false) | inr e ↦ rw e (false_through true) ];
-  late_by = λ r i p late. let l = violating r i p late in elim l.2 [ inl e ↦ rw (l.0, l.1, e) (omega arith) | inr e ↦ rw (l.0, l.1, e) (omega arith) ];
+  are_false = λ r i p late.
+      elim (violating r i p late).2 [ inl e ↦ rw e (false_through false) | inr e ↦ rw e (false_through true) ];
+  late_by = λ r i p late.
+      let l = violating r i p late in
+      elim l.2 [ inl e ↦ rw (l.0, l.1, e) (omega arith) | inr e ↦ rw (l.0, l.1, e) (omega arith) ];
 }
 
 -- begun with 1, the register turns its bit round in every cycle, where the drawing has 0 from the first cycle on
@@ -133,12 +139,14 @@ pulse_goes_wrong = (start, clock, holds, w, run, (2, 0, omega arith, λ e. true�
     taken : (n : ℕ) → w 2 (clock (suc n) 0) ≡ holds (suc n) 0
     taken n = elim (cases_eq (n % 2) 0) [
       | inl even ↦
-          let old : shown (clock (suc n) 0 - 0 - 20) ≡ false = le-ltb ((clock (suc n) 0 - 0 - 20 + 39) % 40) 20 (omega arith) in
-          let now : shown (clock (suc n) 0 - 0) ≡ true = lt-ltb ((clock (suc n) 0 - 0 + 39) % 40) 20 (omega arith) in
+          let t : ℕ = clock (suc n) 0 in
+          let old : shown (t - 0 - 20) ≡ false = le-ltb ((t - 0 - 20 + 39) % 40) 20 (omega arith) in
+          let now : shown (t - 0) ≡ true = lt-ltb ((t - 0 + 39) % 40) 20 (omega arith) in
           rw (old, now, ne_eqb (suc n % 2) 0 (λ e. omega arith)) refl
       | inr odd ↦
-          let old : shown (clock (suc n) 0 - 0 - 20) ≡ true = lt-ltb ((clock (suc n) 0 - 0 - 20 + 39) % 40) 20 (omega arith) in
-          let now : shown (clock (suc n) 0 - 0) ≡ false = le-ltb ((clock (suc n) 0 - 0 + 39) % 40) 20 (omega arith) in
+          let t : ℕ = clock (suc n) 0 in
+          let old : shown (t - 0 - 20) ≡ true = lt-ltb ((t - 0 - 20 + 39) % 40) 20 (omega arith) in
+          let now : shown (t - 0) ≡ false = le-ltb ((t - 0 + 39) % 40) 20 (omega arith) in
           let even : suc n % 2 ≡ 0 = omega arith in
           rw (old, now, eq-eqb (suc n % 2) 0 even) refl
     ]
@@ -147,7 +155,8 @@ pulse_goes_wrong = (start, clock, holds, w, run, (2, 0, omega arith, λ e. true�
     clocks n zero h = (omega arith, omega arith)
     clocks n (suc r) h = absurd (omega arith)
 
-    takes : (n r : ℕ) (b : Bool) → r < 1 → ((t : ℕ) → clock (suc n) r ≤ t + 0 → t ≤ clock (suc n) r + 0 → w (pulse.takes r) t ≡ b) → holds (suc n) r ≡ b
+    takes : (n r : ℕ) (b : Bool) → r < 1 →
+        ((t : ℕ) → clock (suc n) r ≤ t + 0 → t ≤ clock (suc n) r + 0 → w (pulse.takes r) t ≡ b) → holds (suc n) r ≡ b
     takes n (suc r) b h all = absurd (omega arith)
     takes n zero b h all = sym (taken n) ∙ all (clock (suc n) 0) (omega arith) (omega arith)
 
@@ -258,7 +267,8 @@ slow_goes_wrong = ((λ r. false), clock, holds, w, run, (1, 0, omega arith, λ e
     clocks n zero h = (omega arith, omega arith)
     clocks n (suc r) h = absurd (omega arith)
 
-    takes : (n r : ℕ) (b : Bool) → r < 1 → ((t : ℕ) → clock (suc n) r ≤ t + 0 → t ≤ clock (suc n) r + 0 → w (slow.takes r) t ≡ b) → holds (suc n) r ≡ b
+    takes : (n r : ℕ) (b : Bool) → r < 1 →
+        ((t : ℕ) → clock (suc n) r ≤ t + 0 → t ≤ clock (suc n) r + 0 → w (slow.takes r) t ≡ b) → holds (suc n) r ≡ b
     takes n (suc r) b h all = absurd (omega arith)
     takes n zero b h all = rw (ne_eqb (suc n) 0 (λ e. omega arith)) (all (clock (suc n) 0) (omega arith) (omega arith))
 
@@ -285,15 +295,20 @@ pub passed_with_longer : PassedWithLonger
 passed_with_longer m n d p excepted le =
     let f = excepted.formed in
     record {
-      formed = record { sources = f.sources; sound = f.sound; taken = f.taken; clocked = f.clocked; output_ordered = f.output_ordered };
+      formed = record {
+        sources = f.sources;
+        sound = f.sound;
+        taken = f.taken;
+        clocked = f.clocked;
+        output_ordered = f.output_ordered;
+      };
       setup_kept = λ r h.
-          let k : ℕ = m.takes r in
-          let path = told_is_first Late m.circuit (since m) k f.sound (f.taken r h) in
-          elim (cases_lt (m.period + m.early r) (since m (told Late m.circuit (since m) k).0 + sum Late m.circuit (told Late m.circuit (since m) k).1 + m.setup)) [
+          let path = told_is_first Late m.circuit (since m) (m.takes r) f.sound (f.taken r h) in
+          elim (cases_lt (m.period + m.early r) (last_change m (m.takes r) + m.setup)) [
             | inl above ↦
-                let late = excepted.late_by r (told Late m.circuit (since m) k).0 (told Late m.circuit (since m) k).1 (h, path.leads, λ in_time. omega arith) in
+                let late = excepted.late_by r _ _ (h, path.leads, λ in_time. omega (arith, path.reaches)) in
                 omega (arith, path.reaches)
-            | inr below ↦ omega (arith, path.reaches)
+            | inr below ↦ omega arith
           ];
       hold_kept = excepted.hold_kept;
     }

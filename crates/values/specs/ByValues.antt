@@ -10,11 +10,11 @@ use Rattle.promise.specs.Promise.{AsDrawn, with_period}
 use Rattle.values.specs.Examples.{SomeCircuit}
 use Rattle.values.specs.Settling.{settle_time, keep_time}
 
--- from when on in a cycle a signal is settled, and until when in the next it is kept, both from that cycle's
--- beginning, if the registers hold the bits b
+-- from when on in a cycle a signal is settled, counted from the cycle's beginning, if the registers hold the bits b
 abbrev pub last_change_by : Machine → (b : ℕ → Bool) → ℕ → ℕ
 last_change_by m b = settle_time m.circuit b (since m)
 
+-- and until when in the next cycle it is kept, counted from that cycle's beginning
 abbrev pub first_change_by : Machine → (b : ℕ → Bool) → ℕ → ℕ
 first_change_by m b = keep_time m.circuit b (still_for m)
 
@@ -57,20 +57,8 @@ InWindowByValues =
     n * m.period + last_change_by m (drawing m start n) k ≤ t → t < suc n * m.period + first_change m k →
     w k t ≡ ideal m.circuit (drawing m start n) k
 
--- what is passed is passed by values
-abbrev pub PassesNoLess : Type 0
-PassesNoLess = (m : Machine) → Passed m → PassedByValues m
-
--- and more is: some circuit is passed by values and not passed
-abbrev pub PassesMore : Type 0
-PassesMore = SomeCircuit (λ m. PassedByValues m × (Passed m → ⊥))
-
--- what is passed by values is so with every longer period
-abbrev pub SlowerByValues : Type 0
-SlowerByValues = (m : Machine) (p : ℕ) → m.period ≤ p → PassedByValues m → PassedByValues (with_period m p)
-
--- both sums by values; for this no signal that a register takes may begin to change, in the next cycle, before it has
--- changed last in this one
+-- The same with both sums by values; for this no signal that a register takes may begin to change, in the next cycle,
+-- before it has changed last in this one
 pub record PassedByValuesAtBothEnds (m : Machine) : Type 0 where
   pub formed : Formed m
   pub setup_kept : (r : ℕ) → r < m.registers → SetupByValues m r
@@ -80,3 +68,15 @@ pub record PassedByValuesAtBothEnds (m : Machine) : Type 0 where
 -- the same promise of it
 abbrev pub PromiseAtBothEnds : Type 0
 PromiseAtBothEnds = (m : Machine) → PassedByValuesAtBothEnds m → AsDrawn m
+
+-- what is passed is passed by values, with the setup sum or with both
+abbrev pub PassesNoLess : Type 0
+PassesNoLess = (m : Machine) → Passed m → PassedByValues m × PassedByValuesAtBothEnds m
+
+-- and more is passed: some circuit is passed by values and not passed
+abbrev pub PassesMore : Type 0
+PassesMore = SomeCircuit (λ m. PassedByValues m × (Passed m → ⊥))
+
+-- what is passed by values is so with every longer period
+abbrev pub SlowerByValues : Type 0
+SlowerByValues = (m : Machine) (p : ℕ) → m.period ≤ p → PassedByValues m → PassedByValues (with_period m p)

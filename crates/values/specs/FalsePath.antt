@@ -26,8 +26,8 @@ IsFalsePath c p = (b : ℕ → Bool) → Sensitizes c b p → ⊥
 -- a signal is settled no sooner than a change can come along a path that is sensitized
 abbrev pub SensitizedPathsCount : Type 0
 SensitizedPathsCount =
-    (c : Circuit) (b : ℕ → Bool) (s : ℕ → ℕ) → Sound c → (i : ℕ) (p : Steps) (k : ℕ) → Leads c i p k → Sensitizes c b p →
-    s i + sum Late c p ≤ settle_time c b s k
+    (c : Circuit) (b : ℕ → Bool) (s : ℕ → ℕ) → Sound c →
+    (i : ℕ) (p : Steps) (k : ℕ) → Leads c i p k → Sensitizes c b p → s i + sum Late c p ≤ settle_time c b s k
 
 -- the path p is launched by register i and captured by register r
 abbrev pub EndsAt : Machine → (r i : ℕ) → Steps → Type 0

@@ -24,21 +24,27 @@ ControllingValues =
     ((is_controlling_one g a ≡ true) ↔ ((y z : Bool) → output g.table a y ≡ output g.table a z))
     × ((is_controlling_two g a ≡ true) ↔ ((y z : Bool) → output g.table y a ≡ output g.table z a))
 
--- the time from which on a gate's output is settled, if its inputs have the bits x and y and are settled from a and b
--- on: both inputs' times with their greatest delays; or, where one input has a controlling value, that input's time
--- with its greatest delay, but not before the other's greatest delay has passed, as until then nothing is said of a
--- gate
+-- The time from which on a gate's output is settled. Its inputs are settled and their greatest delays, d and e, have
+-- then passed at p and q; one and two say whether they have controlling values. The output is settled from both p and
+-- q on; or, where one input has a controlling value, from this input's time on, once the other's greatest delay has
+-- passed too, as until then nothing is said of a gate
+abbrev pub settled_by : (one two : Bool) → (p q d e : ℕ) → ℕ
+settled_by one two p q d e = min (cond one (max p e) (max p q)) (cond two (max d q) (max p q))
+
+-- The time until which a gate's output is kept, if its inputs are kept and their least delays have then passed at p
+-- and q: until the earlier of both; or, where one input has a controlling value, until this input's time
+abbrev pub kept_by : (one two : Bool) → (p q : ℕ) → ℕ
+kept_by one two p q = max (cond one p (min p q)) (cond two q (min p q))
+
+-- the time from which on a gate's output is settled, if its inputs have the bits x and y and are settled from a and b on
 abbrev pub gate_settle_time : Gate → (x y : Bool) → (a b : ℕ) → ℕ
 gate_settle_time g x y a b =
-    min (cond (is_controlling_one g x) (max (a + g.greatest_one) g.greatest_two) (max (a + g.greatest_one) (b + g.greatest_two)))
-    (cond (is_controlling_two g y) (max g.greatest_one (b + g.greatest_two)) (max (a + g.greatest_one) (b + g.greatest_two)))
+    settled_by (is_controlling_one g x) (is_controlling_two g y)
+    (a + g.greatest_one) (b + g.greatest_two) g.greatest_one g.greatest_two
 
--- the time until which the output is kept, if the inputs are kept until a and b: the earlier of both with their least
--- delays; or, where one input has a controlling value, that input's time with its least delay
+-- the time until which it is kept, if its inputs have the bits x and y and are kept until a and b
 abbrev pub gate_keep_time : Gate → (x y : Bool) → (a b : ℕ) → ℕ
-gate_keep_time g x y a b =
-    max (cond (is_controlling_one g x) (a + g.least_one) (min (a + g.least_one) (b + g.least_two)))
-    (cond (is_controlling_two g y) (b + g.least_two) (min (a + g.least_one) (b + g.least_two)))
+gate_keep_time g x y a b = kept_by (is_controlling_one g x) (is_controlling_two g y) (a + g.least_one) (b + g.least_two)
 
 -- the time from which on each signal is settled, if source i has the bit b i and is settled from s i on
 unfoldable pub settle_time : Circuit → (b : ℕ → Bool) → (s : ℕ → ℕ) → (ℕ → ℕ)

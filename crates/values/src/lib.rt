@@ -74,7 +74,7 @@ pub fn in_window_by_values() -> u8
     0
 }
 
-/// What is passed is passed by values.
+/// What is passed is passed by values, with the setup sum or with both.
 pub fn passes_no_less() -> u8
     ensures { PassesNoLess }
 {

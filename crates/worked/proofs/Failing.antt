@@ -4,6 +4,7 @@ use Rattle.std.proofs.lemmas.Bool.{lt-ltb, le-ltb, eq-eqb, ne_eqb, cases_eq, cas
 use Rattle.circuit.specs.Gate.{output}
 use Rattle.circuit.specs.Circuit.{along}
 use Rattle.circuit.specs.Lent.{gates_in}
+use Rattle.circuit.specs.Whole.{Whole}
 use Rattle.drawing.specs.Drawing.{ideal, held}
 use Rattle.arrival.specs.Arrival.{arrival}
 use Rattle.arrival.specs.Window.{Wave, Moves}
@@ -23,6 +24,9 @@ exchange_times = 4 ∷ 1 ∷ 1 ∷ 0 ∷ 0 ∷ []
 
 exchange : Machine
 exchange = machine_in [] exchange_registers exchange_times
+
+exchange_whole : Whole [] exchange_registers exchange_times
+exchange_whole = whole_by _ _ _ (omega arith)
 
 -- register 0 is clocked early and register 1 late in every cycle, so that 1 takes what 0 has just got
 exchange_goes_wrong : GoesWrong exchange
@@ -97,7 +101,9 @@ turned : (n : ℕ) → in_turn (suc n) ≡ not (in_turn n)
 unfolding in_turn
 turned n = elim (cases_eq (n % 2) 1) [
   | inl odd ↦ ne_eqb (suc n % 2) 1 (λ e. omega arith) ∙ sym (ap not (eq-eqb (n % 2) 1 odd))
-  | inr even ↦ let next : suc n % 2 ≡ 1 = omega arith in eq-eqb (suc n % 2) 1 next ∙ sym (ap not (ne_eqb (n % 2) 1 even))
+  | inr even ↦
+      let next : suc n % 2 ≡ 1 = omega arith in
+      eq-eqb (suc n % 2) 1 next ∙ sym (ap not (ne_eqb (n % 2) 1 even))
 ]
 
 nor_self : (b : Bool) → output 1 b b ≡ not b
@@ -161,6 +167,9 @@ glitch_times = 20 ∷ 0 ∷ 0 ∷ 0 ∷ 2 ∷ []
 
 glitch : Machine
 glitch = machine_in glitch_gates glitch_registers glitch_times
+
+glitch_whole : Whole glitch_gates glitch_registers glitch_times
+glitch_whole = whole_by _ _ _ (omega arith)
 
 module _ (one two : ℕ → ℕ) (within : Delays glitch.circuit (λ k t. one k) (λ k t. two k)) (start : ℕ → Bool)
     (clock : ℕ → ℕ → ℕ) (holds : ℕ → ℕ → Bool) (w : ℕ → Wave) (run : Run glitch start clock holds w)
@@ -268,7 +277,10 @@ glitch_goes_wrong = (start, clock, holds, w, run, (1, 1, omega arith, λ e. true
     w (suc (suc (suc (suc (suc k))))) t = output 1 (turns 0 (t - 5)) (turns 0 (t - 5))
 
     short : (t : ℕ) → delay t ≤ 2
-    short t = elim (cases_eq (t % 20) 1) [ inl e ↦ rw (eq-eqb (t % 20) 1 e) (omega arith) | inr e ↦ rw (ne_eqb (t % 20) 1 e) (omega arith) ]
+    short t = elim (cases_eq (t % 20) 1) [
+      | inl e ↦ rw (eq-eqb (t % 20) 1 e) (omega arith)
+      | inr e ↦ rw (ne_eqb (t % 20) 1 e) (omega arith)
+    ]
 
     passed_late : (t : ℕ) → t % 20 ≡ 1 → passed t ≡ turns 0 (t - 2)
     passed_late t e = rw (eq-eqb (t % 20) 1 e) (first_is _ _)
@@ -290,16 +302,22 @@ glitch_goes_wrong = (start, clock, holds, w, run, (1, 1, omega arith, λ e. true
         turned n ∙ sym (nor_self (in_turn n)) ∙ sym (ap₂ (output 1) now now) ∙ all t (omega arith) (omega arith)
     takes n (suc zero) b h all =
         let t : ℕ = clock (suc n) 1 + 1 in
-        let back : passed (t - 0 - 0) ≡ in_turn n =
-        passed_late (t - 0 - 0) (omega arith) ∙ in_cycle 0 n (t - 0 - 0 - 2) (omega arith) (omega arith) (omega arith) in
-        let on : passed (t - 0 - 1) ≡ not (in_turn n) =
-        passed_now (t - 0 - 1) (λ e. omega arith) ∙ in_cycle 0 (suc n) (t - 0 - 1 - 0) (omega arith) (omega arith) (omega arith) ∙ turned n in
-        let on' : passed (t - 1 - 0) ≡ not (in_turn n) =
-        passed_now (t - 1 - 0) (λ e. omega arith) ∙ in_cycle 0 (suc n) (t - 1 - 0 - 0) (omega arith) (omega arith) (omega arith) ∙ turned n in
-        let before : passed (t - 1 - 1) ≡ in_turn n =
-        passed_now (t - 1 - 1) (λ e. omega arith) ∙ in_cycle 0 n (t - 1 - 1 - 0) (omega arith) (omega arith) (omega arith) in
-        let one : seen (t - 0) ≡ true = ap₂ (output 6) back on ∙ xor_other (in_turn n) in
-        let two : seen (t - 1) ≡ true = ap₂ (output 6) on' before ∙ other_xor (in_turn n) in
+        let at = t - 0 - 0 in
+        let on = t - 0 - 1 in
+        let on' = t - 1 - 0 in
+        let before = t - 1 - 1 in
+        let at_is : passed at ≡ in_turn n =
+        passed_late at (omega arith) ∙ in_cycle 0 n (at - 2) (omega arith) (omega arith) (omega arith) in
+        let on_is : passed on ≡ not (in_turn n) =
+        passed_now on (λ e. omega arith)
+        ∙ in_cycle 0 (suc n) (on - 0) (omega arith) (omega arith) (omega arith) ∙ turned n in
+        let on'_is : passed on' ≡ not (in_turn n) =
+        passed_now on' (λ e. omega arith)
+        ∙ in_cycle 0 (suc n) (on' - 0) (omega arith) (omega arith) (omega arith) ∙ turned n in
+        let before_is : passed before ≡ in_turn n =
+        passed_now before (λ e. omega arith) ∙ in_cycle 0 n (before - 0) (omega arith) (omega arith) (omega arith) in
+        let one : seen (t - 0) ≡ true = ap₂ (output 6) at_is on_is ∙ xor_other (in_turn n) in
+        let two : seen (t - 1) ≡ true = ap₂ (output 6) on'_is before_is ∙ other_xor (in_turn n) in
         ap not (ne_eqb (suc n) 0 (λ e. omega arith)) ∙ sym (ap₂ (output 8) one two) ∙ all t (omega arith) (omega arith)
     takes n (suc (suc r)) b h all = absurd (omega arith)
 
@@ -338,6 +356,9 @@ followed_times = 20 ∷ 1 ∷ 1 ∷ 1 ∷ 0 ∷ []
 followed : Machine
 followed = machine_in followed_gates followed_registers followed_times
 
+followed_whole : Whole followed_gates followed_registers followed_times
+followed_whole = whole_by _ _ _ (omega arith)
+
 greatest_early_fails : GreatestEarly followed
 unfolding followed gates_in arrival greatest_early along
 greatest_early_fails = each 2 _ (omega arith)
@@ -375,7 +396,8 @@ followed_goes_wrong = (start, clock, holds, w, run, (1, 1, omega arith, λ e. tr
         turned n ∙ sym (nor_self (in_turn n)) ∙ sym (ap₂ (output 1) now now) ∙ all t (omega arith) (omega arith)
     takes n (suc zero) b h all =
         let t : ℕ = clock (suc n) 1 in
-        sym (first_is _ _ ∙ in_cycle 1 (suc n) (t - 0) (omega arith) (omega arith) (omega arith)) ∙ all t (omega arith) (omega arith)
+        let now : turns 1 (t - 0) ≡ in_turn (suc n) = in_cycle 1 (suc n) (t - 0) (omega arith) (omega arith) (omega arith) in
+        sym (first_is _ _ ∙ now) ∙ all t (omega arith) (omega arith)
     takes n (suc (suc r)) b h all = absurd (omega arith)
 
     clocks : Clocks followed clock
@@ -409,6 +431,9 @@ launched_times = 20 ∷ 1 ∷ 1 ∷ 1 ∷ 0 ∷ []
 
 launched : Machine
 launched = machine_in launched_gates launched_registers launched_times
+
+launched_whole : Whole launched_gates launched_registers launched_times
+launched_whole = whole_by _ _ _ (omega arith)
 
 period_less_late_fails : PeriodLessLate launched
 unfolding launched gates_in arrival along
@@ -448,7 +473,8 @@ launched_goes_wrong = (start, clock, holds, w, run, (1, 1, omega arith, λ e. tr
         turned n ∙ sym (nor_self (in_turn n)) ∙ sym (ap₂ (output 1) now now) ∙ all t (omega arith) (omega arith)
     takes n (suc zero) b h all =
         let t : ℕ = clock (suc n) 1 in
-        sym (first_is _ _ ∙ in_cycle_before 5 n (t - 17) (omega arith) (omega arith) (omega arith)) ∙ all t (omega arith) (omega arith)
+        let old : turns 5 (t - 17) ≡ in_turn (suc n) = in_cycle_before 5 n (t - 17) (omega arith) (omega arith) (omega arith) in
+        sym (first_is _ _ ∙ old) ∙ all t (omega arith) (omega arith)
     takes n (suc (suc r)) b h all = absurd (omega arith)
 
     clocks : Clocks launched clock
@@ -473,9 +499,9 @@ launched_goes_wrong = (start, clock, holds, w, run, (1, 1, omega arith, λ e. tr
 pub weaker_tests_fail : WeakerTestsFail
 unfolding exchange glitch followed launched
 weaker_tests_fail = (
-  ([], exchange_registers, exchange_times, whole_by _ _ _ (omega arith), (at_most_fails, exchange_goes_wrong)),
-  ([], exchange_registers, exchange_times, whole_by _ _ _ (omega arith), (one_clock_fails, exchange_goes_wrong)),
-  (glitch_gates, glitch_registers, glitch_times, whole_by _ _ _ (omega arith), (kept_delays_fail, glitch_goes_wrong)),
-  (followed_gates, followed_registers, followed_times, whole_by _ _ _ (omega arith), (greatest_early_fails, followed_goes_wrong)),
-  (launched_gates, launched_registers, launched_times, whole_by _ _ _ (omega arith), (period_less_late_fails, launched_goes_wrong)),
+  ([], exchange_registers, exchange_times, exchange_whole, (at_most_fails, exchange_goes_wrong)),
+  ([], exchange_registers, exchange_times, exchange_whole, (one_clock_fails, exchange_goes_wrong)),
+  (glitch_gates, glitch_registers, glitch_times, glitch_whole, (kept_delays_fail, glitch_goes_wrong)),
+  (followed_gates, followed_registers, followed_times, followed_whole, (greatest_early_fails, followed_goes_wrong)),
+  (launched_gates, launched_registers, launched_times, launched_whole, (period_less_late_fails, launched_goes_wrong)),
 )

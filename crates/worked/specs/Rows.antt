@@ -15,6 +15,7 @@ pub data Word : Type 0 where
   too_late : (register : ℕ) (path : List ℕ) (arrival limit : ℕ) → Word
   too_early : (register : ℕ) (path : List ℕ) (arrival limit : ℕ) → Word
 
+-- the numbers of a circuit and its word
 pub record Row : Type 0 where
   pub gates : List ℕ
   pub registers : List ℕ
@@ -35,6 +36,7 @@ Has g r t (too_early q path a b) = FirstEarly g r t q × EarlySums g r t q a b �
 abbrev pub HasWord : Row → Type 0
 HasWord x = Whole x.gates x.registers x.times × Has x.gates x.registers x.times x.word
 
+-- every row of a table has its word
 abbrev pub AllHave : List Row → Type 0
 AllHave [] = Unit {0}
 AllHave (x ∷ xs) = HasWord x × AllHave xs
@@ -65,6 +67,7 @@ and_not p w = record {
   word = w;
 }
 
+-- the table
 abbrev pub rows : List Row
 rows =
     inverter 3 20 passed

@@ -56,6 +56,7 @@ PeriodLessLate m =
 abbrev pub NotEnough : (Machine → Type 0) → Type 0
 NotEnough Test = SomeCircuit (λ m. Test m × GoesWrong m)
 
+-- none of the five tests is enough
 abbrev pub WeakerTestsFail : Type 0
 WeakerTestsFail =
     NotEnough AtMost × NotEnough OneClock × NotEnough KeptDelays × NotEnough GreatestEarly × NotEnough PeriodLessLate
