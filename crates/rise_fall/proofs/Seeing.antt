@@ -1,6 +1,6 @@
 -- What a gate sees of an input.
 use Rattle.std.proofs.Common.{◌≡◌, ℕ, suc, ◌+◌, ◌-◌, ◌<◌, ◌≤◌, ◌⊎◌, Bool, true, false, not, min, max, leb, sym}
-use Rattle.std.proofs.Common.{refl, subst, ◌∙◌, inl, inr, arith, zero}
+use Rattle.std.proofs.Common.{refl, subst, ◌∙◌, inl, inr, arith, zero, ap}
 use Rattle.std.proofs.lemmas.Bool.{cases_lt, cases_Bool, leb-true, le-ltb, cond-true, cond-false, cases_eq, lt-ltb}
 use Rattle.arrival.specs.Window.{Wave}
 use Rattle.rise_fall.specs.Gate.{Bounds, ago, LastTo, NeverChanged, Sees, SeesUpTo}
@@ -152,3 +152,40 @@ sees_by b x t d low high = record {
   no_more = high;
   is = sym (ago_still x t d);
 }
+
+-- and where a change at the moment itself counts, by any delay within the bounds of the bit that it is now
+up_to_or_none : (h : ℕ → Bool) (n : ℕ) →
+    ((d : ℕ) × ((i : ℕ) → i ≤ d → h i ≡ h 0) × (h (suc d) ≡ not (h 0))) ⊎ ((i : ℕ) → i ≤ n → h i ≡ h 0)
+up_to_or_none h zero = inr (λ i z. let e : i ≡ 0 = omega arith in rw e)
+up_to_or_none h (suc n) = elim (up_to_or_none h n) [
+  | inl l ↦ inl l
+  | inr all ↦ elim (either_bit (h (suc n)) (h 0)) [
+    | inl e ↦ inr (λ i z. elim (cases_eq i (suc n)) [ inl s ↦ rw s e | inr o ↦ all i (omega arith) ])
+    | inr e ↦ inl (n, all, e)
+  ]
+]
+
+pub sees_up_to_by : (b : Bounds) (x : Wave) (t d : ℕ) → b.least (x t) ≤ d → d ≤ b.greatest (x t) →
+    SeesUpTo b (ago (λ i. x 0) x t) (x (t - d))
+sees_up_to_by b x t d low high = record {
+  delay = d;
+  transition = x t;
+  changed = elim (up_to_or_none h t) [
+    | inl l ↦ inl (l.0, (λ i z. l.1 i z ∙ now), subst (λ v. h (suc l.0) ≡ not v) now l.2)
+    | inr all ↦ inr (λ i. elim (cases_lt t i) [
+      | inr within ↦ all i within
+      | inl past ↦
+          let e : t - i ≡ t - t = omega arith in
+          ago_still x t i ∙ ap x e ∙ sym (ago_still x t t) ∙ all t (omega arith)
+    ])
+  ];
+  no_less = low;
+  no_more = high;
+  is = sym (ago_still x t d);
+}
+  where
+    h : ℕ → Bool
+    h = ago (λ i. x 0) x t
+
+    now : h 0 ≡ x t
+    now = let e : t - 0 ≡ t = omega arith in ago_still x t 0 ∙ ap x e
