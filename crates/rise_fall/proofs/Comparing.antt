@@ -12,7 +12,7 @@ use Rattle.board.proofs.Cycles.{repeats_at, launch_on, launch_later, until_on, t
 use Rattle.board.proofs.Going.{sources}
 use Rattle.board.proofs.Keeping.{launch_anew, until_next}
 use Rattle.board.specs.Board.{Board, since, still_until, Formed, launch_cycle, until_cycle}
-use Rattle.board.specs.Promise.{with_schedule}
+use Rattle.board.specs.Promise.{with_schedule, with_period}
 use Rattle.rise_fall.specs.Cycles.{RiseFallKeptIn, RiseFallTwoCycles, RiseFallOneCycle, RiseFallFewerTakes}
 use Rattle.rise_fall.specs.Gate.{Bounds, GateBounds}
 use Rattle.rise_fall.specs.Paths.{side}
@@ -20,7 +20,7 @@ use Rattle.rise_fall.specs.Promise.{sources_in, stable_in, SetupKept, HoldKept}
 use Rattle.rise_fall.specs.Times.{longest, Stable, delay_late, from_by, until_by, delayed, has_arc, gate_stable}
 use Rattle.rise_fall.specs.Times.{stable}
 use Rattle.rise_fall.specs.Within.{BoundsWithin, GateBoundsWithin, RiseFallWithin, SetupNarrower, HoldNarrower}
-use Rattle.rise_fall.specs.Within.{RiseFallNarrower, with_period, TimesSlower, SetupSlower, RiseFallSlower}
+use Rattle.rise_fall.specs.Within.{RiseFallNarrower, TimesSlower, SetupSlower, RiseFallSlower}
 use Rattle.rise_fall.proofs.Keeping.{stable_source, stable_gate}
 use Rattle.rise_fall.proofs.Merging.{merged_from, merged_until}
 use Rattle.rise_fall.proofs.Times.{late_at, late_below, late_some}

@@ -16,16 +16,17 @@ use Rattle.arrival.specs.declared.edge.Edge.TheVariants.{Late, Early}
 use Rattle.board.proofs.Going.{sources}
 use Rattle.board.proofs.Keeping.{Show, holds_reference, shows_reference}
 use Rattle.board.specs.Board.{Board, reference, since, still_until}
-use Rattle.board.specs.Run.{Trace}
-use Rattle.rise_fall.specs.Gate.{Bounds, GateBounds, ago, Sees, RiseFallMoves}
-use Rattle.rise_fall.specs.Promise.{sources_in, stable_in, RiseFallPassed, RiseFallRun, RiseFallPromise}
+use Rattle.board.specs.Run.{Trace, SourcesBehave}
+use Rattle.rise_fall.specs.Gate.{Bounds, GateBounds}
+use Rattle.rise_fall.specs.Promise.{sources_in, stable_in, RiseFallPassed, RiseFallPromise, EitherReading}
 use Rattle.rise_fall.specs.Promise.{RiseFallInWindow}
 use Rattle.rise_fall.specs.Times.{longest, Stable, delay_late, from_by, until_by, delayed, equal_bits, makes}
 use Rattle.rise_fall.specs.Times.{is_constant, has_arc, swapped, soonest, longest_still, merged, gate_stable, stable}
 use Rattle.rise_fall.specs.Times.{RiseFallWindow}
 use Rattle.rise_fall.specs.Widest.{BoundsInGate, MovesWithin, NoWorseThanWidest, WidestPass}
 use Rattle.rise_fall.proofs.Merging.{merged_between}
-use Rattle.rise_fall.proofs.Seeing.{in_larger, in_smaller, either_bit, ago_is, seen_by}
+use Rattle.rise_fall.proofs.Seeing.{in_larger, in_smaller, either_bit, ago_is, RightAt, SeesRight, moves_right}
+use Rattle.rise_fall.proofs.Seeing.{up_to_right}
 
 equal_if : (x v : Bool) → x ≡ v → equal_bits x v ≡ true
 equal_if true true e = refl
@@ -70,13 +71,13 @@ abbrev pub longest_still_at : GateBounds → Stable → Stable → ℕ
 longest_still_at d x y = longest_still (delayed d.one x) (delayed d.two y)
 
 -- one gate: the output is what the table makes of the inputs' bits a and b
-gate_right : (g : Gate) (d : GateBounds) (X Y : Stable) (px x py y : Wave) (a b : Bool) (t : ℕ) (p q : Bool) →
+gate_right : (g : Gate) (d : GateBounds) (X Y : Stable) (x y : Wave) (a b : Bool) (t : ℕ) (p q : Bool) →
     ((u : ℕ) → X.from a ≤ u → u < X.until a → x u ≡ a) → ((u : ℕ) → Y.from b ≤ u → u < Y.until b → y u ≡ b) →
-    Sees d.one (ago px x t) p → Sees d.two (ago py y t) q →
+    RightAt d.one x t p → RightAt d.two y t q →
     (gate_stable d g X Y).from (output g.table a b) ≤ t → t < (gate_stable d g X Y).until (output g.table a b) →
     output g.table p q ≡ output g.table a b
 unfolding merged
-gate_right g d X Y px x py y a b t p q shown_x shown_y sees_x sees_y start stop =
+gate_right g d X Y x y a b t p q shown_x shown_y right_x right_y start stop =
     let f = output g.table in
     let v = f a b in
     let top = longest_still_at d X Y in
@@ -84,13 +85,13 @@ gate_right g d X Y px x py y a b t p q shown_x shown_y sees_x sees_y start stop 
     let one : has_arc f a v ≡ true → p ≡ a = λ r.
     let l = in_larger (λ z. cond (has_arc f z v) (from_by d.one X z) bot) a in
     let m = in_smaller (λ z. cond (has_arc f z v) (until_by d.one X z) top) a in
-    seen_by px x a X d.one t p shown_x sees_x
+    right_x a X shown_x
     (omega (arith, cond-true (has_arc f a v) (from_by d.one X a) bot r))
     (omega (arith, cond-true (has_arc f a v) (until_by d.one X a) top r)) in
     let two : has_arc (swapped f) b v ≡ true → q ≡ b = λ r.
     let l = in_larger (λ z. cond (has_arc (swapped f) z v) (from_by d.two Y z) bot) b in
     let m = in_smaller (λ z. cond (has_arc (swapped f) z v) (until_by d.two Y z) top) b in
-    seen_by py y b Y d.two t q shown_y sees_y
+    right_y b Y shown_y
     (omega (arith, cond-true (has_arc (swapped f) b v) (from_by d.two Y b) bot r))
     (omega (arith, cond-true (has_arc (swapped f) b v) (until_by d.two Y b) top r)) in
     serves (swapped f) b v q p two (serves f a v p b one refl)
@@ -108,8 +109,12 @@ module _ (c : Circuit) (d : ℕ → GateBounds) (sound : Sound c) (s : ℕ → S
   stable_gate k h = let n : c.inputs + k - c.inputs ≡ k = omega arith in
       rw n at (all_at (λ n. gate_stable (d (n - c.inputs))) c sound s k h)
 
-pub window : RiseFallWindow
-window c d w b s sound moves shown k t h a z = all_along k h t a z
+-- the window lemma, from what gates see
+window_right : (c : Circuit) (d : ℕ → GateBounds) (w : ℕ → Wave) (b : ℕ → Bool) (s : ℕ → Stable) → Sound c →
+    SeesRight c d w → ((i t : ℕ) → i < c.inputs → (s i).from (b i) ≤ t → t < (s i).until (b i) → w i t ≡ b i) →
+    (k t : ℕ) → k < signals c →
+    (stable c d s k).from (ideal c b k) ≤ t → t < (stable c d s k).until (ideal c b k) → w k t ≡ ideal c b k
+window_right c d w b s sound right shown k t h a z = all_along k h t a z
   where
     all_along : (k : ℕ) → k < signals c → (t : ℕ) → (stable c d s k).from (ideal c b k) ≤ t →
         t < (stable c d s k).until (ideal c b k) → w k t ≡ ideal c b k
@@ -122,12 +127,15 @@ window c d w b s sound moves shown k t h a z = all_along k h t a z
         (λ k h p q t a z.
         let is = ideal_at c sound b k h in
         let g = gate c k in
-        let f = moves.1 k t h in
-        f.is
-        ∙ gate_right g (d k) (stable c d s g.one) (stable c d s g.two) (moves.0 g.one) (w g.one) (moves.0 g.two)
-        (w g.two) (ideal c b g.one) (ideal c b g.two) t f.bit_one f.bit_two p q f.sees_one f.sees_two
+        let f = right k t h in
+        f.4
+        ∙ gate_right g (d k) (stable c d s g.one) (stable c d s g.two) (w g.one) (w g.two)
+        (ideal c b g.one) (ideal c b g.two) t f.0 f.1 p q f.2 f.3
         (rw (stable_gate c d sound s k h, is) at a) (rw (stable_gate c d sound s k h, is) at z)
         ∙ sym is)
+
+pub window : RiseFallWindow
+window c d w b s sound moves = window_right c d w b s sound (moves_right c d w moves)
 
 -- an input is seen no later, and for no less, than by two bounds that its four lie within
 pub seen_from : (b : Bounds) (T : Stable) (a : Bool) (l m : ℕ) → ((v : Bool) → b.greatest v ≤ m) → T.from a ≤ l →
@@ -187,35 +195,45 @@ moves_within c d w within moves k t h a z =
     }
 
 -- sources that show the bits b in their windows of cycle n make every signal show its ideal bit while it is stable
-signal_shows : (m : Board) (d : ℕ → GateBounds) (w : ℕ → Wave) → Sound m.circuit → RiseFallMoves m.circuit d w →
+signal_shows : (m : Board) (d : ℕ → GateBounds) (w : ℕ → Wave) → Sound m.circuit → SeesRight m.circuit d w →
     (n : ℕ) (b : ℕ → Bool) → Show m w n b → (k t : ℕ) → k < signals m.circuit →
     (stable_in m d n k).from (ideal m.circuit b k) ≤ t → t < (stable_in m d n k).until (ideal m.circuit b k) →
     w k t ≡ ideal m.circuit b k
-signal_shows m d w sound moves n b show =
-    window m.circuit d w b (λ i. record {
-      from =
-          λ v. since m n i;
-      until = λ v. still_until m n i;
-    }) sound moves show
+signal_shows m d w sound right n b show = window_right m.circuit d w b (sources_in m n) sound right show
 
-module _ (m : Board) (d : ℕ → GateBounds) (x : Trace) (passed : RiseFallPassed m d) (run : RiseFallRun m d x) where
+module _ (m : Board) (d : ℕ → GateBounds) (x : Trace) (passed : RiseFallPassed m d) (sources : SourcesBehave m x)
+    (sees : SeesRight m.circuit d x.waves) where
   right : (n r t : ℕ) → r < m.registers → m.takes_at r n ≡ true → Show m x.waves n (reference m x.start x.outside n) →
       x.clock (suc n) r ≤ t + m.setup → t ≤ x.clock (suc n) r + m.hold →
       x.waves (m.takes r) t ≡ ideal m.circuit (reference m x.start x.outside n) (m.takes r)
   right n r t h e show a z =
-      let at_clock = run.sources.clocks (suc n) r h in
+      let at_clock = sources.clocks (suc n) r h in
       let v = ideal m.circuit (reference m x.start x.outside n) (m.takes r) in
-      signal_shows m d x.waves passed.formed.sound run.gates n (reference m x.start x.outside n) show
+      signal_shows m d x.waves passed.formed.sound sees n (reference m x.start x.outside n) show
       (m.takes r) t (passed.formed.taken r h)
       (omega (arith, passed.setup_kept n r h e v)) (omega (arith, passed.hold_kept n r h e v))
 
+  holds_right : (n r : ℕ) → r < m.registers → x.holds n r ≡ reference m x.start x.outside n r
+  holds_right = holds_reference m x sources right
+
+  signals_right : (n k t : ℕ) → k < signals m.circuit →
+      (stable_in m d n k).from (ideal m.circuit (reference m x.start x.outside n) k) ≤ t →
+      t < (stable_in m d n k).until (ideal m.circuit (reference m x.start x.outside n) k) →
+      x.waves k t ≡ ideal m.circuit (reference m x.start x.outside n) k
+  signals_right n = signal_shows m d x.waves passed.formed.sound sees n (reference m x.start x.outside n)
+      (shows_reference m x sources right n)
+
 pub promise_kept : RiseFallPromise
-promise_kept m d passed x run = holds_reference m x run.sources (right m d x passed run)
+promise_kept m d passed x run =
+    holds_right m d x passed run.sources (moves_right m.circuit d x.waves run.gates)
 
 pub in_window : RiseFallInWindow
-in_window m d passed x run n =
-    signal_shows m d x.waves passed.formed.sound run.gates n (reference m x.start x.outside n)
-    (shows_reference m x run.sources (right m d x passed run) n)
+in_window m d passed x run =
+    signals_right m d x passed run.sources (moves_right m.circuit d x.waves run.gates)
+
+pub either_reading : EitherReading
+either_reading m d passed x sources moves =
+    holds_right m d x passed sources (up_to_right m.circuit d x.waves moves)
 
 pub widest_pass : WidestPass
 widest_pass m d within passed = record {

@@ -1,10 +1,13 @@
 -- What a gate sees of an input.
-use Rattle.std.proofs.Common.{◌≡◌, ℕ, suc, ◌+◌, ◌-◌, ◌<◌, ◌≤◌, ◌⊎◌, Bool, true, false, not, min, max, leb, sym}
-use Rattle.std.proofs.Common.{refl, subst, ◌∙◌, inl, inr, arith, zero}
+use Rattle.std.proofs.Common.{◌≡◌, ℕ, suc, ◌+◌, ◌-◌, ◌<◌, ◌≤◌, ◌⊎◌, Bool, true, false, not, min, max, leb}
+use Rattle.std.proofs.Common.{length, sym, refl, subst, ◌∙◌, inl, inr, arith, zero, ap}
 use Rattle.std.proofs.lemmas.Bool.{cases_lt, cases_Bool, leb-true, le-ltb, cond-true, cond-false, cases_eq, lt-ltb}
+use Rattle.circuit.specs.Circuit.{Circuit, gate}
+use Rattle.circuit.specs.Gate.{output}
 use Rattle.arrival.specs.Window.{Wave}
-use Rattle.rise_fall.specs.Gate.{Bounds, ago, LastTo, NeverChanged, Sees, SeesUpTo}
-use Rattle.rise_fall.specs.Times.{longest, Stable, delay_late, from_by, until_by, smaller, larger, EitherReading}
+use Rattle.rise_fall.specs.Gate.{Bounds, GateBounds, ago, LastTo, NeverChanged, Sees, RiseFallMoves, SeesUpTo}
+use Rattle.rise_fall.specs.Gate.{MovesUpTo}
+use Rattle.rise_fall.specs.Times.{longest, Stable, delay_late, from_by, until_by, delayed, smaller, larger}
 
 pub in_larger : (f : Bool → ℕ) (b : Bool) → f b ≤ larger f
 in_larger f true = omega arith
@@ -100,9 +103,39 @@ seen_up_to past x a T b t p shown sees start stop =
       ]
     ]
 
-pub either_reading : EitherReading
-either_reading past x a s b t p shown (inl sees) start stop = seen_by past x a s b t p shown sees start stop
-either_reading past x a s b t p shown (inr sees) start stop = seen_up_to past x a s b t p shown sees start stop
+-- what is seen of an input as the bit p at moment t is right: where the input shows the bit a while it is stable, p
+-- is a in the window that its delays leave of this
+abbrev pub RightAt : Bounds → (x : Wave) → (t : ℕ) → (p : Bool) → Type 0
+RightAt b x t p =
+    (a : Bool) (s : Stable) → ((u : ℕ) → s.from a ≤ u → u < s.until a → x u ≡ a) →
+    (delayed b s).from a ≤ t → t < (delayed b s).until a → p ≡ a
+
+-- each gate's output is what its table makes of bits that are right
+abbrev pub SeesRight : Circuit → (ℕ → GateBounds) → (ℕ → Wave) → Type 0
+SeesRight c d w =
+    (k t : ℕ) → k < length c.gates → (p : Bool) × (q : Bool)
+    × RightAt (d k).one (w (gate c k).one) t p × RightAt (d k).two (w (gate c k).two) t q
+    × (w (c.inputs + k) t ≡ output (gate c k).table p q)
+
+pub moves_right : (c : Circuit) (d : ℕ → GateBounds) (w : ℕ → Wave) → RiseFallMoves c d w → SeesRight c d w
+moves_right c d w moves k t h =
+    let f = moves.1 k t h in (
+      f.bit_one,
+      f.bit_two,
+      (λ a s shown. seen_by _ _ a s (d k).one t f.bit_one shown f.sees_one),
+      (λ a s shown. seen_by _ _ a s (d k).two t f.bit_two shown f.sees_two),
+      f.is,
+    )
+
+pub up_to_right : (c : Circuit) (d : ℕ → GateBounds) (w : ℕ → Wave) → MovesUpTo c d w → SeesRight c d w
+up_to_right c d w moves k t h =
+    let f = moves.1 k t h in (
+      f.0,
+      f.1,
+      (λ a s shown. seen_up_to _ _ a s (d k).one t f.0 shown f.2),
+      (λ a s shown. seen_up_to _ _ a s (d k).two t f.1 shown f.3),
+      f.4,
+    )
 
 -- back to any moment either all bits are as just before now, or there was a last transition
 last_or_none : (h : ℕ → Bool) (n : ℕ) → ((i : ℕ) → 1 ≤ i → i ≤ suc n → h i ≡ h 1) ⊎ LastTo h (h 1)
@@ -152,3 +185,40 @@ sees_by b x t d low high = record {
   no_more = high;
   is = sym (ago_still x t d);
 }
+
+-- and where a change at the moment itself counts, by any delay within the bounds of the bit that it is now
+up_to_or_none : (h : ℕ → Bool) (n : ℕ) →
+    ((d : ℕ) × ((i : ℕ) → i ≤ d → h i ≡ h 0) × (h (suc d) ≡ not (h 0))) ⊎ ((i : ℕ) → i ≤ n → h i ≡ h 0)
+up_to_or_none h zero = inr (λ i z. let e : i ≡ 0 = omega arith in rw e)
+up_to_or_none h (suc n) = elim (up_to_or_none h n) [
+  | inl l ↦ inl l
+  | inr all ↦ elim (either_bit (h (suc n)) (h 0)) [
+    | inl e ↦ inr (λ i z. elim (cases_eq i (suc n)) [ inl s ↦ rw s e | inr o ↦ all i (omega arith) ])
+    | inr e ↦ inl (n, all, e)
+  ]
+]
+
+pub sees_up_to_by : (b : Bounds) (x : Wave) (t d : ℕ) → b.least (x t) ≤ d → d ≤ b.greatest (x t) →
+    SeesUpTo b (ago (λ i. x 0) x t) (x (t - d))
+sees_up_to_by b x t d low high = record {
+  delay = d;
+  transition = x t;
+  changed = elim (up_to_or_none h t) [
+    | inl l ↦ inl (l.0, (λ i z. l.1 i z ∙ now), subst (λ v. h (suc l.0) ≡ not v) now l.2)
+    | inr all ↦ inr (λ i. elim (cases_lt t i) [
+      | inr within ↦ all i within
+      | inl past ↦
+          let e : t - i ≡ t - t = omega arith in
+          ago_still x t i ∙ ap x e ∙ sym (ago_still x t t) ∙ all t (omega arith)
+    ])
+  ];
+  no_less = low;
+  no_more = high;
+  is = sym (ago_still x t d);
+}
+  where
+    h : ℕ → Bool
+    h = ago (λ i. x 0) x t
+
+    now : h 0 ≡ x t
+    now = let e : t - 0 ≡ t = omega arith in ago_still x t 0 ∙ ap x e

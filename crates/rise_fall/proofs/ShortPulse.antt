@@ -9,13 +9,13 @@ use Rattle.drawing.specs.Drawing.{ideal}
 use Rattle.arrival.specs.Window.{Wave}
 use Rattle.board.specs.Board.{reference, since, still_until, Formed, launch_cycle}
 use Rattle.board.specs.Run.{Trace}
-use Rattle.rise_fall.specs.Gate.{Bounds, ago, RiseFallFollows, RiseFallMoves}
+use Rattle.rise_fall.specs.Gate.{Bounds, ago, RiseFallFollows, RiseFallMoves, SeesUpTo, MovesUpTo}
 use Rattle.rise_fall.specs.Promise.{sources_in, SetupKept, HoldKept, RiseFallRun}
 use Rattle.rise_fall.specs.Times.{Stable}
 use Rattle.rise_fall.specs.Weaker.{both, delayed_by_own_bounds, stable_by_own_bounds, PassedByOwnBounds, short_pulse}
 use Rattle.rise_fall.specs.Weaker.{pulse_bounds, OwnBoundsFail}
 use Rattle.rise_fall.proofs.Merging.{each, cond_more, StableBetween, merged_between, buffer_between}
-use Rattle.rise_fall.proofs.Seeing.{sees_by}
+use Rattle.rise_fall.proofs.Seeing.{sees_by, sees_up_to_by}
 
 formed : Formed short_pulse
 formed = record {
@@ -121,38 +121,50 @@ waves (suc (suc zero)) = λ t. output 1 (register (t - 1)) (register (t - 1))
 waves (suc (suc (suc zero))) = first
 waves (suc (suc (suc (suc k)))) = second
 
-first_within : (t : ℕ) → (2 ≤ first_delay t) × (first_delay t ≤ cond (register (t - 1)) 10 4)
+-- the delays are within the bounds of what the inputs are now and were just before
+first_within : (t u : ℕ) → u ≤ t → t ≤ suc u → (2 ≤ first_delay t) × (first_delay t ≤ cond (register u) 10 4)
 unfolding first_delay register toggles output
-first_within t = elim (cases_lt 10 t) [
-  | inr e ↦ rw (le-ltb 10 t e) (omega arith, cond_more (toggles ((t - 1) / 9)) 10 4 2 (omega arith) (omega arith))
+first_within t u le ge = elim (cases_lt 10 t) [
+  | inr e ↦ rw (le-ltb 10 t e) (omega arith, cond_more (toggles (u / 9)) 10 4 2 (omega arith) (omega arith))
   | inl late ↦ elim (cases_lt t 18) [
     | inr e ↦
         rw (lt-ltb 10 t late, le-ltb t 18 e)
-        (omega arith, cond_more (toggles ((t - 1) / 9)) 10 4 2 (omega arith) (omega arith))
+        (omega arith, cond_more (toggles (u / 9)) 10 4 2 (omega arith) (omega arith))
     | inl early ↦
-        let up : (t - 1) / 9 ≡ 1 = omega arith in
+        let up : u / 9 ≡ 1 = omega arith in
         rw (lt-ltb 10 t late, lt-ltb t 18 early, up) (omega arith, omega arith)
   ]
 ]
 
-second_within : (t : ℕ) → (2 ≤ second_delay t) × (second_delay t ≤ cond (first (t - 1)) 2 7)
+second_within : (t u : ℕ) → u ≤ t → t ≤ suc u → (2 ≤ second_delay t) × (second_delay t ≤ cond (first u) 2 7)
 unfolding second_delay
-second_within t = elim (cases_eq t 21) [
-  | inl e ↦ rw e (omega arith, unfold first first_delay register toggles output in omega arith)
-  | inr e ↦ rw (ne_eqb t 21 e) (omega arith, cond_more (first (t - 1)) 2 7 2 (omega arith) (omega arith))
+second_within t u le ge = elim (cases_eq t 21) [
+  | inl e ↦ elim (cases_eq u 21) [
+    | inl now ↦ rw (e, now) (omega arith, unfold first first_delay register toggles output in omega arith)
+    | inr other ↦
+        let before : u ≡ 20 = omega arith in
+        rw (e, before) (omega arith, unfold first first_delay register toggles output in omega arith)
+  ]
+  | inr e ↦ rw (ne_eqb t 21 e) (omega arith, cond_more (first u) 2 7 2 (omega arith) (omega arith))
 ]
 
--- a gate with one signal and one set of bounds at both inputs may show what its table makes of that signal some time
--- ago
-follows_one : (g : Gate) (b : Bounds) (x : Wave) (t d : ℕ) → b.least (x (t - 1)) ≤ d → d ≤ b.greatest (x (t - 1)) →
-    RiseFallFollows g (both b) (ago (λ i. x 0) x t) (ago (λ i. x 0) x t) (output g.table (x (t - d)) (x (t - d)))
-follows_one g b x t d low high = record {
-  bit_one = x (t - d);
-  bit_two = x (t - d);
-  sees_one = sees_by b x t d low high;
-  sees_two = sees_by b x t d low high;
-  is = refl;
-}
+-- what a gate with one signal and one set of bounds at both inputs may show: what its table makes of that signal some
+-- time ago, by a delay within the bounds of what the signal is now and was just before
+module _ (g : Gate) (b : Bounds) (x : Wave) (t d : ℕ)
+    (within : (u : ℕ) → u ≤ t → t ≤ suc u → (b.least (x u) ≤ d) × (d ≤ b.greatest (x u))) where
+  follows_one : RiseFallFollows g (both b) (ago (λ i. x 0) x t) (ago (λ i. x 0) x t)
+      (output g.table (x (t - d)) (x (t - d)))
+  follows_one =
+      let i = within (t - 1) (omega arith) (omega arith) in
+      let sees = sees_by b x t d i.0 i.1 in
+      record { bit_one = x (t - d); bit_two = x (t - d); sees_one = sees; sees_two = sees; is = refl }
+
+  follows_up_to : (p : Bool) × (q : Bool) × SeesUpTo b (ago (λ i. x 0) x t) p × SeesUpTo b (ago (λ i. x 0) x t) q
+      × (output g.table (x (t - d)) (x (t - d)) ≡ output g.table p q)
+  follows_up_to =
+      let i = within t (omega arith) (omega arith) in
+      let sees = sees_up_to_by b x t d i.0 i.1 in
+      (x (t - d), x (t - d), sees, sees, refl)
 
 moves : RiseFallMoves short_pulse.circuit pulse_bounds waves
 unfolding waves first second
@@ -163,14 +175,30 @@ moves = (λ k i. waves k 0, follows)
         (ago (λ i. waves (gate short_pulse.circuit k).one 0) (waves (gate short_pulse.circuit k).one) t)
         (ago (λ i. waves (gate short_pulse.circuit k).two 0) (waves (gate short_pulse.circuit k).two) t)
         (waves (2 + k) t)
-    follows zero t h =
-        follows_one (gate short_pulse.circuit 0) (pulse_bounds 0).one register t 1 (omega arith) (omega arith)
-    follows (suc zero) t h =
-        let d = first_within t in
-        follows_one (gate short_pulse.circuit 1) (pulse_bounds 1).one register t (first_delay t) d.0 d.1
-    follows (suc (suc zero)) t h =
-        let d = second_within t in
-        follows_one (gate short_pulse.circuit 2) (pulse_bounds 2).one first t (second_delay t) d.0 d.1
+    follows zero t h = follows_one (gate short_pulse.circuit 0) (pulse_bounds 0).one register t 1
+        (λ u a z. (omega arith, omega arith))
+    follows (suc zero) t h = follows_one (gate short_pulse.circuit 1) (pulse_bounds 1).one register t (first_delay t)
+        (first_within t)
+    follows (suc (suc zero)) t h = follows_one (gate short_pulse.circuit 2) (pulse_bounds 2).one first t
+        (second_delay t) (second_within t)
+    follows (suc (suc (suc k))) t h = absurd (omega arith)
+
+moves_up_to : MovesUpTo short_pulse.circuit pulse_bounds waves
+unfolding waves first second
+moves_up_to = (λ k i. waves k 0, follows)
+  where
+    follows : (k t : ℕ) → k < 3 → (p : Bool) × (q : Bool)
+        × SeesUpTo (pulse_bounds k).one
+        (ago (λ i. waves (gate short_pulse.circuit k).one 0) (waves (gate short_pulse.circuit k).one) t) p
+        × SeesUpTo (pulse_bounds k).two
+        (ago (λ i. waves (gate short_pulse.circuit k).two 0) (waves (gate short_pulse.circuit k).two) t) q
+        × (waves (2 + k) t ≡ output (gate short_pulse.circuit k).table p q)
+    follows zero t h = follows_up_to (gate short_pulse.circuit 0) (pulse_bounds 0).one register t 1
+        (λ u a z. (omega arith, omega arith))
+    follows (suc zero) t h = follows_up_to (gate short_pulse.circuit 1) (pulse_bounds 1).one register t (first_delay t)
+        (first_within t)
+    follows (suc (suc zero)) t h = follows_up_to (gate short_pulse.circuit 2) (pulse_bounds 2).one first t
+        (second_delay t) (second_within t)
     follows (suc (suc (suc k))) t h = absurd (omega arith)
 
 trace : Trace
@@ -210,4 +238,4 @@ run = record {
 -- register 0 is 1 in cycle 1, and register 1 takes 0 at its end
 pub own_bounds_fail : OwnBoundsFail
 unfolding trace holds taken second first second_delay first_delay register toggles output reference ideal along
-own_bounds_fail = (passed, (trace, run, (2, λ e. true≢false (sym e))))
+own_bounds_fail = (passed, (trace, run, moves_up_to, (2, λ e. true≢false (sym e))))

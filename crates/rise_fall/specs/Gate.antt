@@ -71,6 +71,15 @@ pub record SeesUpTo (b : Bounds) (x : ℕ → Bool) (p : Bool) : Type 0 where
   pub no_more : delay ≤ b.greatest transition
   pub is : p ≡ x delay
 
+-- the waves that a circuit can have then
+abbrev pub MovesUpTo : Circuit → (ℕ → GateBounds) → (ℕ → Wave) → Type 0
+MovesUpTo c d w =
+    (past : ℕ → Wave)
+    × ((k t : ℕ) → k < length c.gates → (p : Bool) × (q : Bool)
+    × SeesUpTo (d k).one (ago (past (gate c k).one) (w (gate c k).one) t) p
+    × SeesUpTo (d k).two (ago (past (gate c k).two) (w (gate c k).two) t) q
+    × (w (c.inputs + k) t ≡ output (gate c k).table p q))
+
 -- delays for each gate, moment and transition, within the bounds
 pub record RiseFallDelays (c : Circuit) (d : ℕ → GateBounds) (one two : (k t : ℕ) → Bool → ℕ) : Type 0 where
   pub one_within : (k t : ℕ) (b : Bool) → k < length c.gates →

@@ -6,7 +6,7 @@ use Rattle.arrival.specs.Window.{Wave}
 use Rattle.board.specs.Board.{Board, Formed, reference, since, still_until}
 use Rattle.board.specs.Run.{SourcesBehave, Clocks, Trace}
 use Rattle.board.specs.Promise.{InOrder}
-use Rattle.rise_fall.specs.Gate.{GateBounds, RiseFallMoves, RiseFallDelays, RiseFallMovesBy}
+use Rattle.rise_fall.specs.Gate.{GateBounds, RiseFallMoves, MovesUpTo, RiseFallDelays, RiseFallMovesBy}
 use Rattle.rise_fall.specs.Times.{Stable, stable}
 
 -- when the sources of a board are stable in cycle n: in one window for both bits
@@ -47,6 +47,13 @@ pub record RiseFallRun (m : Board) (d : ℕ → GateBounds) (x : Trace) : Type 0
 abbrev pub RiseFallPromise : Type 0
 RiseFallPromise =
     (m : Board) (d : ℕ → GateBounds) → RiseFallPassed m d → (x : Trace) → RiseFallRun m d x →
+    (n r : ℕ) → r < m.registers → x.holds n r ≡ reference m x.start x.outside n r
+
+-- they hold it also where a change at the moment itself counts, so nothing hangs on which is meant
+abbrev pub EitherReading : Type 0
+EitherReading =
+    (m : Board) (d : ℕ → GateBounds) → RiseFallPassed m d →
+    (x : Trace) → SourcesBehave m x → MovesUpTo m.circuit d x.waves →
     (n r : ℕ) → r < m.registers → x.holds n r ≡ reference m x.start x.outside n r
 
 -- in each cycle every signal of a passed board shows the reference's bit while it is stable

@@ -1,12 +1,12 @@
 -- Latest and earliest times by transition, and the window in which every signal shows its bit.
-use Rattle.std.specs.Prelude.{◌≡◌, ℕ, ◌+◌, ◌-◌, ◌<◌, ◌≤◌, ◌⊎◌, min, max, Bool, true, false, not, ◌&&◌, ◌||◌, cond}
+use Rattle.std.specs.Prelude.{◌≡◌, ℕ, ◌+◌, ◌-◌, ◌<◌, ◌≤◌, min, max, Bool, true, false, not, ◌&&◌, ◌||◌, cond}
 use Rattle.std.specs.Prelude.{nat_le}
 use Rattle.circuit.specs.Gate.{output}
 use Rattle.circuit.specs.declared.gate.Gate.{Gate}
 use Rattle.circuit.specs.Circuit.{Circuit, signals, Sound, along}
 use Rattle.drawing.specs.Drawing.{ideal}
 use Rattle.arrival.specs.Window.{Wave}
-use Rattle.rise_fall.specs.Gate.{Bounds, GateBounds, ago, Sees, SeesUpTo, RiseFallMoves}
+use Rattle.rise_fall.specs.Gate.{Bounds, GateBounds, RiseFallMoves}
 
 -- the least and the greatest of an input's four bounds
 abbrev pub shortest : Bounds → ℕ
@@ -100,14 +100,6 @@ gate_stable d g x y = merged g (delayed d.one x) (delayed d.two y)
 -- when every signal is stable, from when the sources are
 unfoldable pub stable : Circuit → (ℕ → GateBounds) → (ℕ → Stable) → (ℕ → Stable)
 stable c d s = along (λ n. gate_stable (d (n - c.inputs))) c.inputs c.gates s
-
--- an input that shows the bit a while it is stable is seen as a in the window that its delays leave of this, whether or
--- not a change at the moment itself counts: so the times are right for both
-abbrev pub EitherReading : Type 0
-EitherReading =
-    (past x : Wave) (a : Bool) (s : Stable) (b : Bounds) (t : ℕ) (p : Bool) →
-    ((u : ℕ) → s.from a ≤ u → u < s.until a → x u ≡ a) → Sees b (ago past x t) p ⊎ SeesUpTo b (ago past x t) p →
-    (delayed b s).from a ≤ t → t < (delayed b s).until a → p ≡ a
 
 -- THE WINDOW LEMMA BY TRANSITION. If each source i shows its bit b i while it is stable, then every signal shows its
 -- bit while it is stable, which is what it is when nothing takes time, whatever the delays do

@@ -5,7 +5,7 @@ use Rattle.drawing.specs.Drawing.{ideal}
 use Rattle.arrival.specs.Window.{Wave}
 use Rattle.board.specs.Board.{Board, reference}
 use Rattle.board.specs.Run.{Trace}
-use Rattle.rise_fall.specs.Gate.{Bounds, GateBounds, RiseFallMoves}
+use Rattle.rise_fall.specs.Gate.{Bounds, GateBounds, RiseFallMoves, MovesUpTo}
 use Rattle.rise_fall.specs.Times.{Stable, merged}
 use Rattle.rise_fall.specs.Promise.{sources_in, SumsKept, RiseFallRun}
 
@@ -66,9 +66,12 @@ pulse_bounds zero = both (record { least = λ b. 1; greatest = λ b. 1 })
 pulse_bounds (suc zero) = both (record { least = λ b. 2; greatest = λ b. cond b 10 4 })
 pulse_bounds (suc (suc k)) = both (record { least = λ b. 2; greatest = λ b. cond b 2 7 })
 
--- in some run register r does not hold the reference's bit after some cycle
+-- in some run register r does not hold the reference's bit after some cycle; its gates move as they may whether or
+-- not a change at the moment itself counts
 abbrev pub GoesWrongAt : Board → (ℕ → GateBounds) → (r : ℕ) → Type 0
-GoesWrongAt m d r = (x : Trace) × RiseFallRun m d x × ((n : ℕ) × (x.holds n r ≢ reference m x.start x.outside n r))
+GoesWrongAt m d r =
+    (x : Trace) × RiseFallRun m d x × MovesUpTo m.circuit d x.waves
+    × ((n : ℕ) × (x.holds n r ≢ reference m x.start x.outside n r))
 
 -- By each transition's own bounds alone the board is passed, and register 1 goes wrong. The least delays of each gate
 -- are equal here, so it is latest times that fail. Register 0 rises at moment 9 and falls at 18. The first buffer

@@ -2,7 +2,7 @@
 use Rattle.std.specs.Prelude.{◌≡◌, ℕ, suc, ◌+◌, ◌*◌, ◌<◌, ◌≤◌, Bool, length}
 use Rattle.circuit.specs.Circuit.{gate, signals}
 use Rattle.board.specs.Board.{Board, Formed}
-use Rattle.board.specs.Promise.{Within}
+use Rattle.board.specs.Promise.{Within, with_period}
 use Rattle.rise_fall.specs.Gate.{Bounds, GateBounds}
 use Rattle.rise_fall.specs.Promise.{stable_in, SetupKept, HoldKept, RiseFallPassed}
 
@@ -41,14 +41,9 @@ abbrev pub RiseFallNarrower : Type 0
 RiseFallNarrower =
     (new old : Board) (d e : ℕ → GateBounds) → RiseFallWithin new old d e → RiseFallPassed old e → RiseFallPassed new d
 
--- a board with another period
-abbrev pub with_period : Board → ℕ → Board
-with_period m p = record m { period = p }
-
 -- With a period that is longer by p no latest time grows, counted from the cycle's beginning, and no earliest time
--- falls, counted from its end. So each setup slack grows by p at least, and where it is M with a period, no period
--- that is shorter by more than M is long enough. How much more it grows has no such bound, as an input that is stable
--- for longer may have come through by the smaller delay: a shortest period is to be searched for
+-- falls, counted from its end. So each setup slack grows by p at least. It may grow by more, as an input that is
+-- stable for longer may come through by a smaller delay: so a shortest period has to be searched for
 abbrev pub TimesSlower : Type 0
 TimesSlower =
     (m : Board) (d : ℕ → GateBounds) (p : ℕ) → Formed m → (n k : ℕ) → k < signals m.circuit → (b : Bool) →

@@ -2,8 +2,8 @@
 //! that promises. Theorems, each the contract of a function.
 #![tactic(auto)]
 
-ghost use Rattle.rise_fall.specs.Times.{EitherReading, RiseFallWindow};
-ghost use Rattle.rise_fall.specs.Promise.{RiseFallPromise, RiseFallInWindow, RiseFallCanGo};
+ghost use Rattle.rise_fall.specs.Times.{RiseFallWindow};
+ghost use Rattle.rise_fall.specs.Promise.{RiseFallPromise, EitherReading, RiseFallInWindow, RiseFallCanGo};
 ghost use Rattle.rise_fall.specs.Paths.{RiseFallLatestIs, RiseFallEarliestIs};
 ghost use Rattle.rise_fall.specs.Widest.{MovesWithin, NoWorseThanWidest, WidestPass, EqualBoundsPassMore};
 ghost use Rattle.rise_fall.specs.Within.{SetupNarrower, HoldNarrower, RiseFallNarrower};
@@ -18,16 +18,16 @@ pub fn window() -> u8
     0
 }
 
-/// What a gate sees of a stable input is its bit, whether or not a change at the moment itself is the last one.
-pub fn either_reading() -> u8
-    ensures { EitherReading }
+/// After every cycle of every run of a passed board every register holds the reference's bit.
+pub fn promise_kept() -> u8
+    ensures { RiseFallPromise }
 {
     0
 }
 
-/// After every cycle of every run of a passed board every register holds the reference's bit.
-pub fn promise_kept() -> u8
-    ensures { RiseFallPromise }
+/// They hold it also where a change at a moment itself counts as the last one.
+pub fn either_reading() -> u8
+    ensures { EitherReading }
 {
     0
 }

@@ -1,4 +1,4 @@
-use Rattle.rise_fall.proofs.Seeing as laws
+use Rattle.rise_fall.proofs.Keeping as laws
 use Rattle.rise_fall.proofs.either_reading.Goals as goal
 
 pub returns : goal.returns
