@@ -1,10 +1,10 @@
 -- Marks of a fan-in cone, from its signal backward.
-use Rattle.std.proofs.Common.{◌≡◌, ℕ, suc, ◌+◌, ◌<◌, ◌≤◌, ◌↔◌, ◌⊎◌, Bool, true, false, List, [], ◌∷◌, ◌++◌, length, get_or, set, sym, subst, refl, ◌∙◌, inl, inr, arith}
-use Rattle.std.proofs.lemmas.Bool.{cases_Bool, cases_eq, cases_lt}
+use Rattle.std.proofs.Common.{◌≡◌, ℕ, ◌+◌, ◌<◌, ◌≤◌, ◌⊎◌, Bool, true, false, List, [], ◌∷◌, ◌++◌, length, get_or, set, sym, subst, ◌∙◌, inl, inr, arith}
+use Rattle.std.proofs.lemmas.Bool.{cases_eq}
 use Rattle.std.proofs.lemmas.List.{get_or-set_same, get_or-set_other}
 use Rattle.std.proofs.Math.ListN.{length-set}
 use mathlib.Core.Bool.{false≢true}
-use Rattle.circuit.specs.Circuit.{Circuit, gate, signals, Sound}
+use Rattle.circuit.specs.Circuit.{Circuit, gate, signals}
 use Rattle.circuit.specs.Checked.{of, gates_of, registers_of, signals_of}
 use Rattle.circuit.specs.Lent.{gate_in, drawn}
 use Rattle.circuit.specs.declared.circuit.Circuit as checked
@@ -101,7 +101,7 @@ module _ (c : checked.Circuit) (to : ℕ) (inside : to < signals_of c) where
       let room_two : two < length (set marks one true) = omega (arith, length-set {A = Bool}) in
       let in_cone : InCone (wires c) to (n + j) = m.sound (n + j) (omega arith) on in
       let stay : (s : ℕ) → get_or marks s false ≡ true → get_or (set (set marks one true) two true) s false ≡ true =
-          λ s was. stays (set marks one true) two s room_two (stays marks one s room_one was) in
+      λ s was. stays (set marks one true) two s room_two (stays marks one s room_one was) in
       record {
         target = stay to m.target;
         sound = λ s l is. elim (came (set marks one true) two s is) [

@@ -1,10 +1,10 @@
 -- Times of the signals of a fan-in cone.
-use Rattle.std.proofs.Common.{◌≡◌, ℕ, suc, ◌+◌, ◌-◌, ◌*◌, ◌^◌, ◌<◌, ◌≤◌, Bool, true, false, List, length, get_or, set, sym, refl, ◌∙◌, inl, inr, arith, rules}
-use Rattle.std.proofs.lemmas.Bool.{cases_eq, cases_lt}
+use Rattle.std.proofs.Common.{◌≡◌, ℕ, ◌+◌, ◌*◌, ◌^◌, ◌<◌, ◌≤◌, Bool, true, false, List, length, get_or, set, sym, ◌∙◌, inl, inr, arith}
+use Rattle.std.proofs.lemmas.Bool.{cases_eq}
 use Rattle.std.proofs.lemmas.List.{get_or-set_same, get_or-set_other}
 use mathlib.Core.Bool.{false≢true}
 use Rattle.circuit.specs.Checked.{of, gates_of, registers_of, signals_of}
-use Rattle.circuit.specs.Lent.{gate_in, drawn}
+use Rattle.circuit.specs.Lent.{gate_in}
 use Rattle.circuit.specs.declared.circuit.Circuit as checked
 use Rattle.circuit.specs.declared.gate.Gate.{Gate}
 use Rattle.circuit.proofs.Known.{sound_of, gates_small, registers_small, times_small}

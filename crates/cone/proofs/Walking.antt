@@ -1,5 +1,5 @@
 -- The way back along a path stays in the fan-in cone.
-use Rattle.std.proofs.Common.{◌≡◌, ℕ, ◌+◌, ◌-◌, ◌<◌, ◌≤◌, ◌*◌, Bool, List, length, sym, refl, ap, arith}
+use Rattle.std.proofs.Common.{◌≡◌, ℕ, ◌+◌, ◌-◌, ◌<◌, ◌≤◌, ◌*◌, Bool, List, length, arith}
 use Rattle.circuit.specs.Checked.{of, gates_of, registers_of, signals_of}
 use Rattle.circuit.specs.Lent.{gate_in}
 use Rattle.circuit.specs.declared.circuit.Circuit as checked

@@ -14,7 +14,13 @@ use circuit::Circuit;
 use signoff::LONGEST_PATH;
 
 // What is found of a register for one of its sums, where the fan-in cone of its signal is marked.
-fn endpoint_of(circuit: Circuit<'_>, edge: Edge, r: usize, marks: &[bool], room: &mut [u32]) -> Endpoint
+fn endpoint_of(
+    circuit: Circuit<'_>,
+    edge: Edge,
+    r: usize,
+    marks: &[bool],
+    room: &mut [u32],
+) -> Endpoint
     requires register { r < registers_of circuit }
     requires marks { signals_of circuit ≤ length marks.now }
     requires cone { of circuit IsMarked (takes circuit.registers.now r) marks.now }

@@ -1,7 +1,7 @@
 use Rattle.std.proofs.Common.{◌≡◌, ◌<◌, ◌≤◌, ◌+◌, ◌-◌, Bool, length, arith}
 use Rattle.std.proofs.Math.ListN.{length-set}
-use Rattle.circuit.specs.Checked.{gates_of, registers_of, signals_of}
-use Rattle.cone.proofs.Marking.{IsMarking, first_mark, marked, all_marked, inputs_marked, marking_at}
+use Rattle.circuit.specs.Checked.{gates_of, signals_of}
+use Rattle.cone.proofs.Marking.{first_mark, marked, all_marked, marking_at}
 use Rattle.cone.proofs.marks.mark_cone.Goals as goal
 
 pub loop-k-init : goal.loop-k-init

@@ -1,5 +1,5 @@
-use Rattle.std.proofs.Common.{◌∙◌, FitsSigned, w64, arith}
-use Rattle.std.proofs.lemmas.Int.{ints, to_z-of_z}
+use Rattle.std.proofs.Common.{◌∙◌, w64}
+use Rattle.std.proofs.lemmas.Int.{to_z-of_z}
 use Rattle.circuit.proofs.Known.{taken_of}
 use Rattle.cone.proofs.Marking.{here}
 use Rattle.cone.proofs.SumLaws.{margin_is, margin_fits}

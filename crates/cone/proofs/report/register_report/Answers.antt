@@ -1,4 +1,3 @@
-use Rattle.std.proofs.Common.{rules}
 use Rattle.cone.proofs.NoMarks.{none_marked}
 use Rattle.cone.proofs.report.register_report.Goals as goal
 

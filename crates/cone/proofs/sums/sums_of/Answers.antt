@@ -1,5 +1,5 @@
-use Rattle.std.proofs.Common.{◌∙◌, ◌<◌, ◌^◌, arith}
-use Rattle.circuit.proofs.Known.{registers_small, times_small}
+use Rattle.std.proofs.Common.{◌<◌, ◌^◌, arith}
+use Rattle.circuit.proofs.Known.{times_small}
 use Rattle.cone.proofs.SumLaws.{taken_small}
 use Rattle.cone.proofs.sums.sums_of.Goals as goal
 

@@ -1,4 +1,4 @@
-use Rattle.std.proofs.Common.{sym, ◌∙◌, arith}
+use Rattle.std.proofs.Common.{arith}
 use Rattle.cone.proofs.TimeLaws.{gate_time_is}
 use Rattle.cone.proofs.times.gate_time.Goals as goal
 

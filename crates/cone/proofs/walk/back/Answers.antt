@@ -1,4 +1,4 @@
-use Rattle.std.proofs.Common.{◌≡◌, true, false, ◌∙◌, ap, ap₂, arith}
+use Rattle.std.proofs.Common.{◌≡◌, ◌∙◌, ap, ap₂, arith}
 use Rattle.path.specs.Path.{input, by_second}
 use Rattle.cone.proofs.TimeLaws.{before}
 use Rattle.cone.proofs.walk.back.Goals.{then-second, else-second}

@@ -1,5 +1,4 @@
-use Rattle.std.proofs.Common.{◌≡◌, ◌+◌, ◌-◌, ◌<◌, length, ap, arith}
-use Rattle.circuit.specs.Checked.{gates_of, registers_of}
+use Rattle.std.proofs.Common.{length, ap, arith}
 use Rattle.circuit.proofs.Known.{sound_of}
 use Rattle.path.proofs.Telling.{told_back, told_source_lent}
 use Rattle.cone.proofs.Marking.{here}
