@@ -1,15 +1,15 @@
 -- A fraction rounded to a binary64 number is the nearest of all.
-use Rattle.std.proofs.Common.{◌≡◌, ℕ, zero, suc, ◌+◌, ◌-◌, ◌*◌, ◌/◌, ◌%◌, ◌^◌, ◌<◌, ◌≤◌, Bool, true, false, cond, not, sym, ap, subst, ◌∙◌, refl, inl, inr, ◌⊎◌, arith, pos, negsuc, ℤ}
-use native.Mathlib.Nat.{mul-pos, le_refl, le_trans, le_of_eq, lt_of_lt_of_le, lt_of_le_of_lt, mul-one, mul_assoc, mul_comm, mul_left_comm, mul_right_comm, mul-le-mul_right, mul-div_cancel, not-le_of_lt, lt_irrefl, zero-mul, one-mul, pow-succ', zero-lt-suc, div-div-eq-div-mul, div-le_self}
+use Rattle.std.proofs.Common.{◌≡◌, ℕ, zero, suc, ◌+◌, ◌-◌, ◌*◌, ◌/◌, ◌%◌, ◌^◌, ◌<◌, ◌≤◌, Bool, true, false, cond, sym, ap, subst, ◌∙◌, refl, inl, inr, arith, pos, negsuc, ℤ}
+use native.Mathlib.Nat.{mul-pos, le_trans, le_of_eq, lt_of_le_of_lt, mul-one, mul_assoc, mul_comm, mul_left_comm, mul-le-mul_right, mul-div_cancel, not-le_of_lt, lt_irrefl, zero-mul, one-mul, pow-succ', zero-lt-suc, div-div-eq-div-mul, div-le_self}
 use mathlib.Core.Bool.{false≢true, true≢false, ◌&&◌}
-use Rattle.std.proofs.lemmas.Bool.{cases_lt, cases_eq}
+use Rattle.std.proofs.lemmas.Bool.{cases_lt}
 use Rattle.std.specs.Float.{float_is_finite, is_sign_negative}
 use Rattle.near.specs.Ratio.{apart, units, IsNumber}
 use Rattle.near.proofs.Closest.{none_nearer, even_if_tied}
 use Prim.Native.Nat.{compare}
 use lib.Dec.{T, ltb, leb, eqb, eqb→eq, ltb→lt, lt→ltb, leb→le}
-use lib.Pow.{pow-add, pow_pos, pow_mono, pow-lt, shl_lt}
-use lib.Ieee.{Float, Format, nan, inf, fin, binary64, up, down, prec, emax, low, size, round, fits, to_bits, hid, top, lt}
+use lib.Pow.{pow-add, pow_pos, pow-lt, shl_lt}
+use lib.Ieee.{Float, nan, inf, fin, binary64, up, down, emax, low, size, round, fits, to_bits, hid, top, lt}
 use lib.Ieee.Digits.{size-le, back}
 use lib.Ieee.Exact.{HasValue, units_val}
 use lib.Ieee.Fits.{and_l, and_r, down_pos, round_is, round-fits, nearest-le, kept-lt}

@@ -1,13 +1,12 @@
 -- The rounded quotient of a margin and a period is its ratio, with its sign.
-use Rattle.std.proofs.Common.{◌≡◌, ℕ, zero, suc, ◌+◌, ◌*◌, ◌%◌, ◌^◌, ◌<◌, ◌≤◌, ℤ, pos, negsuc, Bool, true, false, sym, ap, subst, ◌∙◌, refl, inl, inr, arith, ◌↔◌, ◌<ℤ◌, FitsSigned, w64, to_z, of_z}
-use Rattle.std.proofs.lemmas.Bool.{cases_lt, cases_eq}
+use Rattle.std.proofs.Common.{◌≡◌, ℕ, zero, suc, ◌+◌, ◌*◌, ◌%◌, ◌^◌, ◌<◌, ◌≤◌, ℤ, pos, negsuc, Bool, true, false, sym, ap, subst, ◌∙◌, refl, inl, inr, arith, FitsSigned, w64, to_z, of_z}
+use Rattle.std.proofs.lemmas.Bool.{cases_eq}
 use Rattle.std.proofs.lemmas.Int.{ints, to_z-of_z}
 use mathlib.Core.Bool.{false≢true}
 use native.Mathlib.Nat.{mul-pos}
-use lib.Dec.{T}
 use lib.Ieee.{Float, binary64, fits, to_bits, div, of_int}
-use Rattle.std.specs.Float.{float_is_finite, float_zero, is_sign_negative, ◌<ᶠ◌}
-use Rattle.near.specs.Ratio.{IsNumber, units, IsValue, size_of, is_below, apart, apart_signed, distance, IsRatio}
+use Rattle.std.specs.Float.{float_is_finite, float_zero, is_sign_negative}
+use Rattle.near.specs.Ratio.{IsNumber, units, IsValue, size_of, apart, apart_signed, IsRatio}
 use Rattle.near.proofs.Nearness.{Nearest, nearest_one, sign_is, nonzero, zero_is, below_zero, not_below, bits_even}
 use Rattle.near.proofs.Rounding.{rounded, div_is}
 

@@ -1,5 +1,5 @@
 -- Two whole numbers that binary64 holds are divided with one rounding.
-use Rattle.std.proofs.Common.{◌≡◌, ℕ, ◌+◌, ◌*◌, ◌^◌, ◌<◌, ◌≤◌, ℤ, pos, negsuc, suc, true, false, Bool, sym, ap, ◌∙◌, arith, refl, subst}
+use Rattle.std.proofs.Common.{◌≡◌, ℕ, ◌*◌, ◌^◌, ◌<◌, ℤ, pos, negsuc, suc, true, false, Bool, sym, ap, ◌∙◌, arith, refl, subst}
 use native.Mathlib.Nat.{mul_assoc, mul_comm, mul_left_comm, mul-pos, lt_irrefl, zero-lt-suc}
 use lib.Dec.{T, eqb, eqb→eq}
 use lib.Ieee.{Float, Format, nan, inf, fin, binary64, round, of_int, div, up, down, unlike}

@@ -1,5 +1,5 @@
 -- A circuit's smallest margins are few bits.
-use Rattle.std.proofs.Common.{◌≡◌, ℕ, ◌+◌, ◌*◌, ◌^◌, ◌<◌, ◌≤◌, ◌∙◌, ap, arith, ℤ, pos, negsuc, ◌+ℤ◌, ◌<ℤ◌, FitsSigned, w64, to_z, of_z}
+use Rattle.std.proofs.Common.{◌+◌, ◌*◌, ◌^◌, ◌<◌, arith, ℤ, pos, negsuc, ◌+ℤ◌, ◌<ℤ◌, FitsSigned, w64, to_z, of_z}
 use Rattle.std.proofs.lemmas.Int.{ints, to_z-of_z}
 use Rattle.circuit.specs.Checked.{of, registers_of}
 use Rattle.circuit.specs.declared.circuit.Circuit as checked

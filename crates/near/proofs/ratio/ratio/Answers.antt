@@ -1,4 +1,4 @@
-use Rattle.std.proofs.Common.{rules, arith, ◌<◌, ◌^◌, FitsSigned, w64}
+use Rattle.std.proofs.Common.{arith, ◌<◌, ◌^◌, FitsSigned, w64}
 use Rattle.near.proofs.Ratios.{ratio_of}
 use Rattle.near.proofs.ratio.ratio.Goals as goal
 
