@@ -1,4 +1,4 @@
-//! The worst paths of a circuit, those that end at registers with the smallest slack first, and the figures of its slacks.
+//! The worst paths of a circuit, the smallest slack first, and the figures of its registers' slacks.
 #![tactic(auto)]
 
 ghost use Rattle.worst_paths.specs.Figures.{PassedByFigures, TotalOfNone};
