@@ -1,6 +1,6 @@
 // The two files: a circuit, and what is told to it.
-use crate::command::Task;
 use circuit::{Circuit, Register};
+use cli::BenchOptions;
 use fields::{Expected, Fault};
 use found::found;
 use input::{Cut, Feed, Misread, Next};
@@ -174,7 +174,7 @@ fn past_end(circuit: Circuit<'_>, script: &Script) -> Option<Entry> {
 }
 
 // Why what is told to a circuit is not enough for a run, or for as many as are asked for.
-fn flaw_of_script(task: &Task<'_>, circuit: Circuit<'_>, script: &Script) -> Option<Flaw> {
+fn flaw_of_script(task: &BenchOptions<'_>, circuit: Circuit<'_>, script: &Script) -> Option<Flaw> {
     if script.cycles == 0 {
         return Some(Flaw::NoCycle);
     }
@@ -190,7 +190,7 @@ fn flaw_of_script(task: &Task<'_>, circuit: Circuit<'_>, script: &Script) -> Opt
 // What a file tells to a circuit, which is to go some cycles.
 pub(crate) fn read_script(
     rt: &HostRuntime,
-    task: &Task<'_>,
+    task: &BenchOptions<'_>,
     circuit: Circuit<'_>,
 ) -> Result<Script, Flaw> {
     let mut reader = delays::Reader::new(rt.alloc(), circuit.register_count());
@@ -219,6 +219,6 @@ fn path_of(name: &str) -> &str {
 }
 
 // Whether a file is one of the two that are read.
-pub(crate) fn is_read(rt: &HostRuntime, task: &Task<'_>, path: &str) -> bool {
+pub(crate) fn is_read(rt: &HostRuntime, task: &BenchOptions<'_>, path: &str) -> bool {
     is_same_file(rt, path, path_of(task.circuit)) || is_same_file(rt, path, path_of(task.delays))
 }

@@ -1,10 +1,10 @@
 // Runs, and what they come to.
-use crate::command::Task;
 use crate::halt::Halt;
 use crate::progress::{OneOf, Progress};
 use crate::report::{Cycle, Difference, Ended, Found, Tried};
 use crate::vcd::Dump;
 use circuit::{Circuit, Refusal};
+use cli::BenchOptions;
 use clocks::Bench;
 use script::Script;
 use trial::Trial;
@@ -19,7 +19,12 @@ struct Beside {
 
 impl Beside {
     // Before the run: the dump that is asked for is begun.
-    fn begin(&mut self, rt: &HostRuntime, task: &Task<'_>, bench: Bench<'_>) -> Result<(), Halt> {
+    fn begin(
+        &mut self,
+        rt: &HostRuntime,
+        task: &BenchOptions<'_>,
+        bench: Bench<'_>,
+    ) -> Result<(), Halt> {
         if let Some(path) = task.vcd {
             self.dump = Some(Dump::new(rt, path, bench)?);
         }
@@ -90,7 +95,7 @@ fn print_cycles(
 // A run, of which each cycle is printed.
 fn print_run(
     rt: &HostRuntime,
-    task: &Task<'_>,
+    task: &BenchOptions<'_>,
     bench: Bench<'_>,
     watch: &mut Watch<'_>,
     beside: &mut Beside,
@@ -120,7 +125,7 @@ fn go_until_different(
 // Where a run first differs from the drawing. It is printed where it is the only one.
 fn first_difference(
     rt: &HostRuntime,
-    task: &Task<'_>,
+    task: &BenchOptions<'_>,
     bench: Bench<'_>,
     beside: &mut Beside,
 ) -> Result<Option<Difference>, Halt> {
@@ -173,7 +178,7 @@ impl Tried {
 // One run more, from this number.
 fn try_run(
     rt: &HostRuntime,
-    task: &Task<'_>,
+    task: &BenchOptions<'_>,
     bench: Bench<'_>,
     beside: &mut Beside,
     tried: &mut Tried,
@@ -190,7 +195,7 @@ fn try_run(
 // So many runs, from the number that is told and the ones after it. All are numbers that can be told.
 fn try_runs(
     rt: &HostRuntime,
-    task: &Task<'_>,
+    task: &BenchOptions<'_>,
     circuit: Circuit<'_>,
     script: &mut Script,
     beside: &mut Beside,
@@ -217,7 +222,7 @@ fn try_runs(
 // The one run that is asked for.
 fn make_run(
     rt: &HostRuntime,
-    task: &Task<'_>,
+    task: &BenchOptions<'_>,
     bench: Bench<'_>,
     beside: &mut Beside,
 ) -> Result<Found, Halt> {
@@ -231,7 +236,7 @@ fn make_run(
 // One run, or as many as are asked for.
 pub(crate) fn make_runs(
     rt: &HostRuntime,
-    task: &Task<'_>,
+    task: &BenchOptions<'_>,
     circuit: Circuit<'_>,
     script: &mut Script,
 ) -> Result<Ended, Halt> {

@@ -3,12 +3,12 @@
 
 use answer::{Refused, Title, TurnedAway};
 use circuit::{Circuit, Refusal};
+use cli::{Asked, BenchOptions, Told, bench_options};
 use clocks::Bench;
-use command::{About, Command, Task, given};
 use given::{Flaw, is_read, read_circuit, read_script};
 use going::make_runs;
 use halt::{Halt, Trouble};
-use input::Escaped;
+use input::{Escaped, arguments};
 use outcome::{Outcome, TROUBLE};
 use report::{Ended, OnLine, Why};
 use script::Script;
@@ -16,7 +16,6 @@ use std::io;
 use std::process::ExitCode;
 use text::Listing;
 
-mod command;
 mod given;
 mod going;
 mod halt;
@@ -24,39 +23,6 @@ mod outcome;
 mod progress;
 mod report;
 mod vcd;
-
-const USAGE: &str =
-    "usage: bench [--trials N] [--vcd FILE] [--quiet] [--exit-zero] [--help] [--version] CIRCUIT DELAYS";
-
-const HELP: &str =
-    "Lets the circuit of the file CIRCUIT go through time, moment by moment, with the delays, clocks and all
-else that the file DELAYS tells, and looks at every register after every cycle.
-
-  3: 10, as drawn             in cycle 3 registers 0 and 1 hold 1 and 0, as the drawing says
-  4: 01, register 1 is 1 and drawn 0
-                              register 1 holds another bit than the drawing says
-  5 cycles, as drawn          the end: all were as drawn; or else
-  5 cycles, not as drawn: first in cycle 4 at register 1
-  turned away by N at P: REASON
-                              the numbers are no circuit, what is told is out of its bounds,
-                              or no run is possible
-
-  CIRCUIT       a text of one circuit; - is standard input
-  DELAYS        a text of delays; - is standard input
-  --trials N    make N runs, from the number that DELAYS tells behind `random` and the ones after it,
-                and print what they come to as one line
-  --vcd FILE    write the run as a value change dump: all signals, clocks, and where a register may
-                show or take anything
-  --quiet       do not tell how far a long run is
-  --exit-zero   end with status 0 whatever is found
-  --help        print this and end
-  --version     print the version and end
-
-Status 0 if every register was as drawn after every cycle, and 1 if one was not or the circuit was turned
-away. A file that cannot be read or written, or that has a fault in its text, is an error: it is told on
-standard error, and the status is 2 in any case.";
-
-const VERSION: &str = "bench (muleminute) 0.1.0";
 
 // The flaw of a file is told.
 fn tell(rt: &HostRuntime, path: &str, flaw: Flaw) -> io::Result<Outcome> {
@@ -80,7 +46,7 @@ fn tell_refusal(
 // Why a run did not come to its end.
 fn tell_halt(
     rt: &HostRuntime,
-    task: &Task<'_>,
+    task: &BenchOptions<'_>,
     name: &[u8],
     bench: Bench<'_>,
     halt: Halt,
@@ -101,7 +67,7 @@ fn tell_end(rt: &HostRuntime, ended: Ended) -> io::Result<Outcome> {
 // The circuit goes with what it is told.
 fn go(
     rt: &HostRuntime,
-    task: &Task<'_>,
+    task: &BenchOptions<'_>,
     name: &[u8],
     circuit: Circuit<'_>,
     script: &mut Script,
@@ -115,7 +81,7 @@ fn go(
 // What is told to the circuit is read, and it goes.
 fn read_and_go(
     rt: &HostRuntime,
-    task: &Task<'_>,
+    task: &BenchOptions<'_>,
     name: &[u8],
     circuit: Circuit<'_>,
 ) -> Result<Outcome, Trouble> {
@@ -133,7 +99,11 @@ fn tell_turned_away(rt: &HostRuntime, name: &[u8], refused: Refused) -> Result<O
 }
 
 // A circuit that was read is turned away, or goes.
-fn answer_for(rt: &HostRuntime, task: &Task<'_>, listing: &Listing) -> Result<Outcome, Trouble> {
+fn answer_for(
+    rt: &HostRuntime,
+    task: &BenchOptions<'_>,
+    listing: &Listing,
+) -> Result<Outcome, Trouble> {
     let name = &listing.draft.name;
     match answer::circuit(listing) {
         Ok(circuit) => read_and_go(rt, task, name, circuit),
@@ -141,7 +111,7 @@ fn answer_for(rt: &HostRuntime, task: &Task<'_>, listing: &Listing) -> Result<Ou
     }
 }
 
-fn bench(rt: &HostRuntime, task: &Task<'_>) -> Result<Outcome, Trouble> {
+fn bench(rt: &HostRuntime, task: &BenchOptions<'_>) -> Result<Outcome, Trouble> {
     if let Some(vcd) = task.vcd {
         if is_read(rt, task, vcd) {
             return Ok(tell(rt, vcd, Flaw::Overwrites)?);
@@ -153,41 +123,29 @@ fn bench(rt: &HostRuntime, task: &Task<'_>) -> Result<Outcome, Trouble> {
     }
 }
 
-fn help(rt: &HostRuntime) -> io::Result<ExitCode> {
-    println!(rt; "{USAGE}\n\n{HELP}")?;
-    Ok(ExitCode::SUCCESS)
-}
-
-fn version(rt: &HostRuntime) -> io::Result<ExitCode> {
-    println!(rt; "{VERSION}")?;
-    Ok(ExitCode::SUCCESS)
-}
-
-fn usage(rt: &HostRuntime) -> io::Result<ExitCode> {
-    eprintln!(rt; "{USAGE}")?;
-    Ok(ExitCode::from(TROUBLE))
-}
-
-// Tells about the program.
-fn tell_about(rt: &HostRuntime, about: About) -> io::Result<ExitCode> {
-    match about {
-        About::Help => help(rt),
-        About::Version => version(rt),
-        About::Usage => usage(rt),
+// Prints what stands in the place of what the program does.
+fn print_told(rt: &HostRuntime, told: &Told) -> io::Result<ExitCode> {
+    if told.error {
+        eprint!(rt; "{}", told.text)?;
+    } else {
+        print!(rt; "{}", told.text)?;
     }
+    Ok(ExitCode::from(told.status))
 }
 
 // Does what the arguments ask for.
 fn obey(rt: &HostRuntime, args: &[String]) -> Result<ExitCode, Trouble> {
-    match Command::read(rt, args)? {
-        Command::Tell(about) => Ok(tell_about(rt, about)?),
-        Command::Bench(task) => Ok(bench(rt, &task)?.status(task.exit_zero)),
+    match bench_options(rt.alloc(), args)? {
+        Asked::Do(task) => Ok(bench(rt, &task)?.status(task.exit_zero)),
+        Asked::Tell(told) => Ok(print_told(rt, &told)?),
     }
 }
 
 fn run(rt: &HostRuntime) -> Result<ExitCode, Trouble> {
-    let args = given(rt)?;
-    obey(rt, &args)
+    match arguments(rt) {
+        Ok(args) => obey(rt, &args),
+        Err(e) => Err(Trouble::Arguments(e)),
+    }
 }
 
 // What ends the program is told, unless nobody reads on what it prints.

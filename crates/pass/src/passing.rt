@@ -1,7 +1,7 @@
 // The circuits of a text that is read line by line.
 use crate::Outcome;
-use crate::command::Form;
 use crate::source::Source;
+use cli::PassOptions;
 use fields::{Expected, Fault};
 use found::found;
 use input::{Cut, Feed, Misread, Next};
@@ -75,15 +75,15 @@ fn flaw_of(heap: Global, fault: Fault, line: &[u8]) -> Result<Flaw, AllocError> 
 
 // The circuits of a file, read line by line, and what is said of them.
 #[derive(Drop)]
-struct Passing<'a> {
-    form: Form,
+struct Passing<'a, 'b> {
+    options: &'a PassOptions<'b>,
     file: &'a str,
     reader: Reader,
     out: String,
     worst: Option<Outcome>,
 }
 
-impl Passing<'_> {
+impl Passing<'_, '_> {
     // Puts what is told of a circuit behind what was said, as a whole or not at all.
     fn tell(&mut self, rt: &HostRuntime, listing: &Listing) -> Result<(), Flaw> {
         let mut said = String::new(rt.alloc());
@@ -91,7 +91,7 @@ impl Passing<'_> {
             file: self.file,
             listing,
         };
-        let Ok(outcome) = source.tell(rt.alloc(), self.form, &mut said) else {
+        let Ok(outcome) = source.tell(rt.alloc(), self.options, &mut said) else {
             return Err(Flaw::Memory);
         };
         self.out.push_str(&said)?;
@@ -142,13 +142,13 @@ impl Passing<'_> {
 // The circuits of a reader. What was said of them stays said where a flaw comes after them.
 pub(crate) fn pass_reader<R: Read + Drop>(
     rt: &HostRuntime,
-    form: Form,
+    options: &PassOptions<'_>,
     path: &str,
     reader: R,
 ) -> Result<Outcome, Flaw> {
     let mut feed = Feed::new(rt.alloc(), reader);
     let mut passing = Passing {
-        form,
+        options,
         file: path,
         reader: Reader::new(),
         out: String::new(rt.alloc()),

@@ -1,11 +1,25 @@
 // A circuit that was read, and what is told of it.
 use crate::Outcome;
-use crate::command::{Form, Layout, Worst};
+use crate::register::put_register;
+use arrival::Edge;
 use as_json::Place;
+use cli::{Form, Layout, PassOptions};
 use std::alloc::{AllocError, Global};
 use std::fmt;
 use std::fmt::Write;
 use text::Listing;
+
+// Which of the worst paths are told: how many, and by the slack of which times.
+#[derive(Clone, Copy)]
+struct Worst {
+    paths: usize,
+    edge: Edge,
+}
+
+// The times whose slacks are told: the earliest, or the latest.
+fn edge_of(early: bool) -> Edge {
+    if early { Edge::Early } else { Edge::Late }
+}
 
 // A circuit that was read, and the name of its file.
 #[derive(Clone, Copy)]
@@ -68,6 +82,7 @@ impl<'a> Source<'a> {
         self,
         heap: Global,
         worst: Worst,
+        layout: Layout,
         line: &str,
         out: &mut String,
     ) -> fmt::Result {
@@ -79,7 +94,7 @@ impl<'a> Source<'a> {
             return Err(fmt::Error);
         };
         path_table::put_worst(out, circuit, worst.edge, &paths)?;
-        if worst.layout == Layout::Steps {
+        if layout == Layout::Steps {
             path_table::put_steps(out, circuit, worst.edge, &paths)?;
         }
         Ok(())
@@ -112,16 +127,43 @@ impl<'a> Source<'a> {
         Ok(Outcome::of(!rated.turned_away))
     }
 
+    // What is found of one of its registers alone.
+    fn tell_register(
+        self,
+        heap: Global,
+        register: usize,
+        out: &mut String,
+    ) -> Result<Outcome, fmt::Error> {
+        let name = self.name();
+        match answer::circuit(self.listing) {
+            Ok(circuit) => Ok(Outcome::of(put_register(out, name, circuit, register)?)),
+            Err(refused) => {
+                out.push_str(&answer::turned_away(heap, name, refused)?)?;
+                Ok(Outcome::NotPassed)
+            }
+        }
+    }
+
     // All else that is told of it, with the line that is said.
     fn put(self, heap: Global, form: Form, line: &str, out: &mut String) -> fmt::Result {
         match form {
             Form::Json => self.put_json(heap, out),
             Form::Report => self.put_report(heap, line, out),
             Form::Paths => self.put_paths(line, out),
-            Form::Worst(worst) if worst.layout == Layout::Json => {
-                self.put_worst_json(heap, worst, out)
+            Form::Worst {
+                paths,
+                early,
+                layout,
+            } => {
+                let edge = edge_of(early);
+                let worst = Worst { paths, edge };
+                match layout {
+                    Layout::Json => self.put_worst_json(heap, worst, out),
+                    Layout::Table | Layout::Steps => {
+                        self.put_worst_tables(heap, worst, layout, line, out)
+                    }
+                }
             }
-            Form::Worst(worst) => self.put_worst_tables(heap, worst, line, out),
             Form::Words | Form::Period | Form::Near => Ok(out.push_str(line)?),
         }
     }
@@ -130,9 +172,13 @@ impl<'a> Source<'a> {
     pub(crate) fn tell(
         self,
         heap: Global,
-        form: Form,
+        options: &PassOptions<'_>,
         out: &mut String,
     ) -> Result<Outcome, fmt::Error> {
+        let form = options.form;
+        if let Some(register) = options.register {
+            return self.tell_register(heap, register, out);
+        }
         if form == Form::Period {
             return self.tell_period(heap, out);
         }
