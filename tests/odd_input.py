@@ -216,23 +216,43 @@ def check_bench(folder):
 
 def check_arguments(folder):
     good, told = folder.file("good", GOOD), folder.file("told", TOLD)
-    for program in ("pass", "bench"):
-        for arguments in ([], ["--wrong"]):
+    for program, name in (("pass", [good]), ("bench", [good, told])):
+        for arguments in ([], ["--wrong"], ["-x"], name + ["--wrong=1"]):
             status, out, err = run(program, *arguments)
-            assert status == 2 and out == "" and "usage: %s" % program in err, (program, arguments, out, err)
-        for option in ("--help", "--version"):
-            status, out, err = run(program, option)
-            assert status == 0 and out != "" and err == "", (program, option)
-    for arguments in (["--json", "--period", good], ["--report", good, "--paths"]):
+            assert status == 2 and out == "" and err.startswith(program + ": ") and "Usage: %s" % program in err, (program, arguments, out, err)
+            assert not arguments or arguments[-1].split("=")[0] in err, err
+        want = run(program, "--version")
+        assert want[0] == 0 and want[1].startswith("%s (muleminute) " % program) and want[2] == "", want
+        # What is asked for first is told.
+        for arguments in (["-V"], ["--version", "--help"], name + ["-V"]):
+            same(run(program, *arguments), want, arguments)
+        want = run(program, "--help")
+        assert want[0] == 0 and "Usage: %s" % program in want[1] and want[2] == "" and max(map(len, want[1].splitlines())) <= 110, want
+        for arguments in (["-h"], ["--help", "--version"]):
+            same(run(program, *arguments), want, arguments)
+    for arguments in (["--json", "--period", good], ["--report", good, "--paths"], ["--near", "--json", good], ["--worst", "3", "--period", good],
+                      ["--register", "0", "--json", good]):
         status, out, err = run("pass", *arguments)
-        assert status == 2 and out == "" and "exclude one another" in err and "usage: pass" in err, (arguments, out, err)
-    for arguments in ([good], [good, told, told], ["--trials", good, told], ["--trials", "0", good, told], [good, told, "--vcd"],
-                      ["--vcd", "v", "--trials", "2", good, told], ["-", "-"]):
+        assert status == 2 and out == "" and "cannot be used with" in err and "Usage: pass" in err, (arguments, out, err)
+    for arguments, named in ((["--worst", "0", good], "--worst"), (["--worst", "101", good], "--worst"), (["--worst=x", good], "--worst"), ([good, "--worst"], "--worst"),
+                             (["--early", good], "--worst"), (["--register", "-1", good], "-1"), ([good, "--register"], "--register")):
+        status, out, err = run("pass", *arguments)
+        assert status == 2 and out == "" and named in err and "Usage: pass" in err, (arguments, out, err)
+    for arguments, named in (([good], "DELAYS"), ([good, told, told], told), (["--trials", good, told], "--trials"), (["--trials", "0", good, told], "--trials"),
+                             (["--trials=4294967296", good, told], "--trials"), ([good, told, "--vcd"], "--vcd"), ([good, told, "--trials"], "--trials"),
+                             (["--vcd", "v", "--trials", "2", good, told], "cannot be used with"), (["-", "-"], "standard input")):
         status, out, err = run("bench", *arguments)
-        assert status == 2 and out == "" and "usage: bench" in err, (arguments, out, err)
+        assert status == 2 and out == "" and named in err and "Usage: bench" in err, (arguments, out, err)
     status, out, err = run("bench", "--trials", "3", good, folder.file("none", b"cycles 2\n"))
     assert status == 2 and out == "" and "random" in err, (out, err)
     same(run("bench", "-", told, stdin=GOOD), run("bench", good, told), "standard input")
+    same(run("bench", "--trials=3", good, told), run("bench", "--trials", "3", good, told), "--trials=3")
+    dash = os.path.join(folder.path, "-x")
+    os.rename(folder.file("x", GOOD), dash)
+    path = os.path.join(TOP, "crates", "pass", "out", "pass")
+    for arguments in (["--", "-x"], ["./-x"], ["--exit-zero", "--", "-x"]):
+        done = subprocess.run([path] + arguments, capture_output=True, cwd=folder.path)
+        same((done.returncode, done.stdout, done.stderr), (0, b"c: passed, margin 3 and 1\n", b""), arguments)
 
 
 def check_long(folder):
