@@ -271,6 +271,21 @@ def compare(rng, folder, counts):
     counts["passed" if passed else "not passed, not as drawn" if first else "not passed, as drawn"] += 1
 
 
+def check_large_dump(folder):
+    """A dump that is written out in several pieces, read back moment by moment."""
+    circuit = ([[0, 1, 1, 3, 8, 2, 9], [0, 1, 6, 4, 9, 2, 7], [2, 3, 14, 0, 5, 0, 5]], [[4, 0, 2], [3, 1, 2]], [30, 2, 4, 3, 1])
+    said = [("cycles", 400), ("start", 1, 0), ("random", 77)]
+    paths = [os.path.join(folder, name) for name in ("c", "d", "v")]
+    open(paths[0], "w").write(text("c", *circuit))
+    open(paths[1], "w").write("".join(" ".join(map(str, s)) + "\n" for s in said))
+    got, status, err = call(paths[0], paths[1], "--vcd", paths[2])
+    run = Run(Told(circuit, said))
+    want, first = printed(run)
+    assert got == want and status == (1 if first else 0) and err == "", (got[-1], want[-1], status, err)
+    assert os.path.getsize(paths[2]) > 2 * 60000, os.path.getsize(paths[2])
+    check_dump(paths[2], run)
+
+
 # Weaker tools, which look right: each says whether it lets a circuit through.
 def all_right(circuit, clock, at_most=0, earlier=min):
     """Both sums at every register, with the clock from and to where it is said to come; with at most in place of below in the
@@ -383,6 +398,7 @@ def main():
         for _ in range(count):
             compare(rng, folder, counts)
         check_examples(folder)
+        check_large_dump(folder)
     check_weaker()
     assert count < 200 or all(counts.values()), counts
     words = ", ".join("%d %s" % (n, k) for k, n in counts.items())
