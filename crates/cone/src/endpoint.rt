@@ -1,9 +1,10 @@
 // What is found of one register.
 use std::fmt;
 
-/// What is found of a register for its setup sum or its hold sum. `arrival` and `limit` are the two sums that are compared:
-/// latest time and setup, period and early time; or earliest time, late time and hold. `margin` is how much lies between them,
-/// below 0 what is missing, and `path` how many numbers of the lent room the path to the register takes. All in picoseconds.
+/// What is found of a register for its setup sum or its hold sum. `arrival` and `limit` are the two sums that are
+/// compared: latest time and setup, period and early time; or earliest time, late time and hold. `margin` is how much
+/// lies between them, or below 0 what is missing, all in picoseconds. `path` is how many numbers of the lent room the
+/// path to the register takes.
 #[derive(Clone, Copy)]
 pub struct Endpoint {
     pub arrival: u64,

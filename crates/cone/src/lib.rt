@@ -49,7 +49,8 @@ pub fn same_cone_is_mapped() -> u8
     0
 }
 
-/// A register's margins are those of each register that sees the same: equal times, and a fan-in cone that is mapped to its own.
+/// A register's margins are those of each register that sees the same: equal times, and a fan-in cone that is mapped to
+/// its own.
 pub fn cone_margins() -> u8
     ensures { ConeMargins }
 {

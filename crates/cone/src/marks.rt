@@ -10,7 +10,8 @@ use circuit::{Circuit, Gate};
 fn mark_inputs(circuit: Circuit<'_>, k: usize, marks: &mut [bool])
     requires gate { k < gates_of circuit }
     requires room { signals_of circuit ≤ length marks.old }
-    ensures { marks.new ≡ slice_set (slice_set marks.old (gate_in circuit.entry.gates.now k).one true) (gate_in circuit.entry.gates.now k).two true }
+    ensures { marks.new ≡ slice_set (slice_set marks.old (gate_in circuit.entry.gates.now k).one true)
+        (gate_in circuit.entry.gates.now k).two true }
 {
     let gate = Gate::from(circuit.gates()[k]);
     marks[gate.one as usize] = true;

@@ -41,9 +41,9 @@ fn endpoint_of(
     }
 }
 
-/// All that is found of one register of a circuit, from the fan-in cone of the signal that it takes: nothing else of the
-/// circuit is looked at. The two rooms then begin with its paths, as `path::path` writes them, the one that is latest and the
-/// one that is earliest. A register that the circuit does not have is refused, and the rooms are left as they were.
+/// All that is found of one register of a circuit, from the fan-in cone of the signal that it takes: no other gate is
+/// looked at. The two rooms then begin with its paths, as `path::path` writes them, the latest and the earliest. A
+/// register that the circuit does not have is refused, and the rooms are left as they were.
 pub fn register_report(
     circuit: Circuit<'_>,
     register: usize,

@@ -32,8 +32,10 @@ pub(crate) fn input_times(circuit: Circuit<'_>, edge: Edge, k: usize, times: &[u
     requires gate { k < gates_of circuit }
     requires room { signals_of circuit ≤ length times.now }
     requires known { of circuit KnowsInputs edge k times.now }
-    ensures one { result.one ≡ of circuit.entry (time_of edge) (gate_in circuit.entry.gates.now k).one + delay edge false (gate_in circuit.entry.gates.now k) }
-    ensures two { result.two ≡ of circuit.entry (time_of edge) (gate_in circuit.entry.gates.now k).two + delay edge true (gate_in circuit.entry.gates.now k) }
+    ensures one { result.one ≡ of circuit.entry (time_of edge) (gate_in circuit.entry.gates.now k).one
+        + delay edge false (gate_in circuit.entry.gates.now k) }
+    ensures two { result.two ≡ of circuit.entry (time_of edge) (gate_in circuit.entry.gates.now k).two
+        + delay edge true (gate_in circuit.entry.gates.now k) }
 {
     let gate = Gate::from(circuit.gates()[k]);
     let (first, second) = edge.delays(gate);
@@ -86,7 +88,7 @@ fn fill_gate(circuit: Circuit<'_>, edge: Edge, marks: &[bool], k: usize, times: 
     times[signal] = gate_time(circuit, edge, k, times);
 }
 
-// The times of all marked signals, of which a gate's inputs are some where the gate is. No other signal's time is found.
+// The times of all marked signals; where a gate is marked, so are its inputs. No other signal's time is found.
 pub(crate) fn fill_marked(circuit: Circuit<'_>, edge: Edge, marks: &[bool], times: &mut [u64])
     requires marks { signals_of circuit ≤ length marks.now }
     requires inputs { of circuit HasInputs marks.now }
