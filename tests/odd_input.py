@@ -231,7 +231,7 @@ def check_arguments(folder):
         for arguments in (["-h"], ["--help", "--version"]):
             same(run(program, *arguments), want, arguments)
     for arguments in (["--json", "--period", good], ["--report", good, "--paths"], ["--near", "--json", good], ["--worst", "3", "--period", good],
-                      ["--register", "0", "--json", good]):
+                      ["--register", "0", "--json", good], ["--register", "0", "--paths", good]):
         status, out, err = run("pass", *arguments)
         assert status == 2 and out == "" and "cannot be used with" in err and "Usage: pass" in err, (arguments, out, err)
     for arguments, named in ((["--worst", "0", good], "--worst"), (["--worst", "101", good], "--worst"), (["--worst=x", good], "--worst"), ([good, "--worst"], "--worst"),

@@ -1,5 +1,5 @@
 -- What a command line asks for, and what is printed in its place.
-use Rattle.std.specs.Prelude.{◌≡◌, ◌++◌, ℕ, Bool, true, List, ⊤, codes, cond, string_bytes}
+use Rattle.std.specs.Prelude.{◌≡◌, ◌++◌, ℕ, true, List, ⊤, codes, cond, string_bytes}
 use Rattle.cli.specs.declared.told.Asked.{Asked}
 use Rattle.cli.specs.declared.told.Asked.TheVariants.{Do, Tell}
 use Rattle.cli.specs.declared.told.Told.{Told}

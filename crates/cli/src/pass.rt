@@ -109,7 +109,9 @@ const EARLY: &str = "With --worst: the smallest hold slack first";
 
 const EXIT_ZERO: &str = "End with status 0 whatever is said of the circuits";
 
-const REGISTER: &str = "Print what is found of register R alone; with --paths step by step";
+const REGISTER: &str =
+    "Print what is found of register R alone: whether it meets its times, its margins,
+and for each sum both numbers and the signals of its path";
 
 // Why options cannot be followed that `clap` lets through.
 #[derive(Debug, Drop, Error)]
@@ -159,11 +161,12 @@ fn early<'a>(heap: Global) -> Result<Arg<'a>, AllocError> {
     flag(heap, "early", EARLY).requires_arg("worst")
 }
 
-// One register goes with its path.
+// One register is asked for alone.
 fn register<'a>(heap: Global) -> Result<Arg<'a>, AllocError> {
     number(heap, "register", "R", REGISTER)
         .value_parser(value_parser!(usize))
         .conflicts_with("json")?
+        .conflicts_with("paths")?
         .conflicts_with("period")?
         .conflicts_with("near")?
         .conflicts_with("report")?
@@ -255,7 +258,7 @@ fn register_of(matches: &ArgMatches<'_>, form: Form) -> Option<usize>
     ensures { IfSome result (λ r. IsOfOneRegister form) }
 {
     match form {
-        Form::Words | Form::Paths => matches.get_one::<usize>("register"),
+        Form::Words => matches.get_one::<usize>("register"),
         _ => None,
     }
 }

@@ -73,7 +73,7 @@ fn pass_lists_the_worst_paths(rt: HostRuntime) -> Result<(), Fail> {
 fn pass_looks_at_one_register(rt: HostRuntime) -> Result<(), Fail> {
     let heap = rt.alloc();
     assert!(rt; has_form(heap, "pass --register 0 a -", Form::Words, Some(0))?);
-    assert!(rt; has_form(heap, "pass --register=7 --paths a -", Form::Paths, Some(7))?);
+    assert!(rt; has_form(heap, "pass --register=7 a -", Form::Words, Some(7))?);
     Ok(())
 }
 
@@ -163,7 +163,14 @@ fn forms_exclude_one_another(rt: HostRuntime) -> Result<(), Fail> {
         let line = format!(in heap; "pass {form} --worst 2 a")?;
         assert!(rt; is_refused(heap, &line, "cannot be used with")?);
     }
-    for form in ["--json", "--period", "--near", "--report", "--worst=2"] {
+    for form in [
+        "--json",
+        "--paths",
+        "--period",
+        "--near",
+        "--report",
+        "--worst=2",
+    ] {
         let line = format!(in heap; "pass {form} --register 2 a")?;
         assert!(rt; is_refused(heap, &line, "cannot be used with")?);
     }
