@@ -45,7 +45,8 @@ pub struct Rated {
 // The circuit that was read, where it is not turned away.
 fn taken(draft: &Draft) -> Circuit<'_>
     requires { Taken (drafted draft.now) }
-    ensures { HasNumbers (drafted draft.now) result }
+    ensures { (result.gates.now ≡ draft.now.gates.items) × (result.registers.now ≡ draft.now.registers.items)
+        × (result.times.now ≡ draft.now.times.items) }
 {
     let numbers = Numbers {
         gates: &draft.gates,

@@ -68,12 +68,7 @@ pub fn put_worst(
 }
 
 // The steps of a path, from its source on.
-fn put_pins(
-    out: &mut String,
-    circuit: Circuit<'_>,
-    edge: Edge,
-    path: &TimingPath,
-) -> fmt::Result {
+fn put_pins(out: &mut String, circuit: Circuit<'_>, edge: Edge, path: &TimingPath) -> fmt::Result {
     let mut time = put_source(out, circuit, edge, path.source)?;
     for pin in path.pins.iter() {
         let Some(step) = step_on(circuit, edge, pin.gate, pin.second, time) else {
@@ -81,7 +76,14 @@ fn put_pins(
         };
         time = step.time;
         let input = if step.second { "2" } else { "1" };
-        put_row(out, step.signal, name_of(step.table), input, step.delay, time)?;
+        put_row(
+            out,
+            step.signal,
+            name_of(step.table),
+            input,
+            step.delay,
+            time,
+        )?;
     }
     Ok(())
 }

@@ -77,7 +77,3 @@ module _ (word : List ℕ) {xs ls : List (List ℕ)} {l : List ℕ} {n k m : ℕ
   pub passed : (i : ℕ) (b : Bool) → b ≡ begins_with word (words (bare l)) → b ≡ false → line_of word i n xs ≡ line_of word i m ls
   unfolding line_of
   passed i b b_is not_so = rw (first, ← b_is, not_so, m_is) refl
-
-pub no_such_line : (word : List ℕ) (i n : ℕ) {xs : List (List ℕ)} → xs ≡ [] → line_of word i n xs ≡ None
-unfolding line_of
-no_such_line word i n none = rw none refl

@@ -5,7 +5,7 @@ ghost use Rattle.std.specs.Prelude.{◌≡◌, ℕ, ◌*◌, ◌^◌, ◌<◌, �
 ghost use Rattle.std.specs.List.{list_all};
 ghost use Rattle.lines.specs.Words.{words, lines, bare};
 ghost use Rattle.fields.specs.Fields.{fields};
-ghost use Rattle.text.specs.Meaning.{meaning, drafted, noted, statement, inside, fresh, printable, title, opened, first_circuit, begins_with, line_of, Added, Taken, Ended, Stated, LineStated, Titled, Opened, LineOpened};
+ghost use Rattle.text.specs.Meaning.{meaning, drafted, noted, statement, inside, fresh, printable, title, opened, first_circuit, begins_with, Added, Taken, Ended, Stated, LineStated, Titled, Opened, LineOpened};
 ghost use Rattle.text.specs.Read.{ToEnd, FirstOpened, IsRead};
 
 use fields::{Expected, Fault};
@@ -260,21 +260,4 @@ pub(crate) fn begins_with(line: &[u8], word: &[u8]) -> bool
         return false;
     };
     lines::same(first, word)
-}
-
-// The number of the line, counted from 1, that is number `index`, counted from 0, of those that begin with a word.
-pub fn line_of(text: &[u8], word: &[u8], index: usize) -> Option<usize>
-    ensures { result ≡ line_of word.now index 1 (lines text.now) }
-{
-    let mut rest = Lines::new(text);
-    let mut before = index;
-    while let Some((n, line)) = rest.next() {
-        if begins_with(line, word) {
-            if before == 0 {
-                return Some(n);
-            }
-            before -= 1;
-        }
-    }
-    None
 }

@@ -1,12 +1,12 @@
 use Rattle.std.proofs.Common.{inl, inr, vec_items, string_bytes}
 use Rattle.wording.specs.Line.{LineOf}
 use Rattle.wording.specs.Words.{titled}
-use Rattle.answer.proofs.Source.judge.Goals as goal
-use Rattle.answer.proofs.Source.judge.Goals.{in-TooLate, in-TooEarly}
+use Rattle.answer.proofs.judge.Goals as goal
+use Rattle.answer.proofs.judge.Goals.{in-TooLate, in-TooEarly}
 
 pub returns-clause-line : goal.returns-clause-line
 returns-clause-line c =
-    let says : LineOf (titled (vec_items c.args.self.draft.now.name)) c.match-verdict.word (string_bytes c.in_ok-line.field-0) = rw c.deref-2.ensures.value at c.in_ok-line.ensures in
+    let says : LineOf (titled (vec_items c.args.draft.now.name)) c.match-verdict.word (string_bytes c.in_ok-line.field-0) = rw c.deref-2.ensures.value at c.in_ok-line.ensures in
     elim c.match-verdict.branch [
       | in-TooLate w ↦ inl (rw w.word-is at says)
       | in-TooEarly w ↦ inr (inl (rw w.word-is at says))
