@@ -137,7 +137,7 @@ fn put_turned_away(object: &mut Object, heap: Global, refused: Refused) -> Resul
     object.put("refusal", refusal_of(heap, refused)?)
 }
 
-// The line on a circuit that is turned away, without its end: JSON.
+/// The line on a circuit that is turned away, without its end: JSON.
 pub fn turned_away(heap: Global, place: Place<'_>, refused: Refused) -> Result<String, AllocError>
     ensures { IfOk result (λ line. IsSome (read (string_bytes line))) }
 {
@@ -161,7 +161,7 @@ fn judged_object(
     Ok(object)
 }
 
-// The line on a circuit that is not, without its end: JSON.
+/// The line on a circuit that is not turned away, without its end: JSON.
 pub fn judged(heap: Global, place: Place<'_>, circuit: Circuit<'_>) -> Result<String, AllocError>
     ensures { IfOk result (λ line. IsSome (read (string_bytes line))) }
 {
