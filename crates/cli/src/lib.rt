@@ -4,8 +4,6 @@
 mod bench;
 mod option;
 mod pass;
-#[cfg(test)]
-mod tests;
 mod told;
 
 pub use bench::{BenchOptions, bench_options};
