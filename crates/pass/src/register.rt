@@ -17,22 +17,23 @@ fn words(word: Word) -> &'static str {
     }
 }
 
+// The gates of a path, which is its source, and then of each gate its signal and the input by which it comes in.
+fn put_gates(out: &mut String, length: usize, room: &[u32]) -> fmt::Result {
+    for i in (1..length).step_by(2) {
+        let Some(gate) = room.get(i) else {
+            break;
+        };
+        write!(out, ", {gate}")?;
+    }
+    Ok(())
+}
+
 // One of a register's two sums: what it is called, both numbers, and the signals of the path.
 fn put_sum(out: &mut String, sum: &str, endpoint: Endpoint, room: &[u32]) -> fmt::Result {
-    write!(
-        out,
-        "  {sum} {} and {} by ",
-        endpoint.arrival, endpoint.limit
-    )?;
-    let mut before = "";
-    for i in 0..endpoint.path {
-        // A path is its source, and then of each gate its signal and the input by which it comes in.
-        if i == 0 || i % 2 == 1 {
-            let signal = room.get(i).copied().unwrap_or(0);
-            write!(out, "{before}{signal}")?;
-            before = ", ";
-        }
-    }
+    let source = room.first().copied().unwrap_or(0);
+    let (arrival, limit) = (endpoint.arrival, endpoint.limit);
+    write!(out, "  {sum} {arrival} and {limit} by {source}")?;
+    put_gates(out, endpoint.path, room)?;
     Ok(out.push_str("\n")?)
 }
 
