@@ -488,14 +488,24 @@ def check_trials(folder):
     skew = folder.file("skew", b"circuit skew\ntimes 10 2 4 3 1\nregister 0 0 30\nend\n")
     told = folder.file("told", b"cycles 4\nrandom 1\nclock 2 0 12\n")
     status, out, err = run("bench", skew, told, "--trials", "20")
-    whole = re.fullmatch(r"([0-9]+) runs? of 4 cycles, as drawn; ([0-9]+) not made, as a told clock comes too soon: first with random [0-9]+\n", out)
-    assert status == 1 and whole and int(whole[1]) + int(whole[2]) == 20, (out, err)
+    whole = re.fullmatch(r"([0-9]+) runs of 4 cycles, ([0-9]+) not as drawn: first with random ([0-9]+), in cycle [1-4] at register 0; "
+                         r"([0-9]+) not made, as a told clock comes too soon: first with random ([0-9]+)\n", out)
+    assert status == 1 and whole, (out, err)
+    made, wrong, first, not_made, first_not_made = map(int, whole.groups())
+    assert made + not_made == 20 and 0 < wrong <= made and 1 <= min(first, first_not_made) and max(first, first_not_made) <= 20, out
+    # What is counted is what single runs come to.
+    alone = []
+    for seed in range(1, 21):
+        _, out, _ = run("bench", skew, folder.file("alone", b"cycles 4\nrandom %d\nclock 2 0 12\n" % seed))
+        alone.append("not made" if "turned away by 9" in out else "wrong" if "not as drawn" in out.splitlines()[-1] else "right")
+    same((alone.count("not made"), alone.count("wrong"), alone.index("not made") + 1, alone.index("wrong") + 1), (not_made, wrong, first_not_made, first), "--trials")
+    out = whole[0]
     number = out.split()[-1]
     status, out, err = run("bench", skew, folder.file("told", b"cycles 4\nrandom %s\nclock 2 0 12\n" % number.encode()))
     assert status == 1 and out.startswith("skew: turned away by 9 at 2: this clock does not come after"), (out, err)
     wrong = folder.file("wrong", b"circuit\ntimes 18 2 4 3 1\nregister 2 0 2\nregister 0 0 2\ngate 0 0 nor 3 8 3 8\nend\n")
     status, out, err = run("bench", wrong, folder.file("told", b"cycles 1\nrandom 4294967295\n"), "--trials", "200")
-    whole = re.fullmatch(r"200 runs of 1 cycle, ([0-9]+) not as drawn: first with random ([0-9]+), in cycle 1 at register 0\n", out)
+    whole = re.fullmatch(r"200 runs of 1 cycle, ([0-9]+) not as drawn: first with random ([0-9]+), in cycle 1 at register [01]\n", out)
     assert status == 1 and whole and 0 < int(whole[1]) <= 200, (out, err)
     number = int(whole[2])
     assert number < 2 ** 32, out

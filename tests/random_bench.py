@@ -274,7 +274,7 @@ def compare(rng, folder, counts):
 def check_large_dump(folder):
     """A dump that is written out in several pieces, read back moment by moment."""
     circuit = ([[0, 1, 1, 3, 8, 2, 9], [0, 1, 6, 4, 9, 2, 7], [2, 3, 14, 0, 5, 0, 5]], [[4, 0, 2], [3, 1, 2]], [30, 2, 4, 3, 1])
-    said = [("cycles", 400), ("start", 1, 0), ("random", 77)]
+    said = [("cycles", 800), ("start", 1, 0), ("random", 77)]
     paths = [os.path.join(folder, name) for name in ("c", "d", "v")]
     open(paths[0], "w").write(text("c", *circuit))
     open(paths[1], "w").write("".join(" ".join(map(str, s)) + "\n" for s in said))
