@@ -12,6 +12,11 @@ pub number_field : (w : List ℕ) (x : ℕ) → number w ≡ Ok x → field fals
 unfolding field
 number_field w x e = rw e
 
+-- a number is a field in any column
+pub any_number : (capped table : Bool) (w : List ℕ) (x : ℕ) → number w ≡ Ok x → field capped table w ≡ Ok x
+unfolding field
+any_number capped table w x e = rw e
+
 pub no_number : (w : List ℕ) (u : Unread) → number w ≡ Err u → field false false w ≡ Err (wanted u)
 unfolding field
 no_number w NoDigit e = rw e

@@ -1,9 +1,9 @@
 -- The fields of a line: numbers, and a table by its name.
-use Rattle.std.specs.Prelude.{ℕ, zero, suc, ◌+◌, ◌-◌, ◌^◌, Bool, false, cond, List, [], ◌∷◌, map, position, Some, None, Ok, Err, Option, Result, ◌==◌, slice_index_or}
+use Rattle.std.specs.Prelude.{◌≡◌, ℕ, zero, suc, ◌+◌, ◌-◌, ◌^◌, Bool, true, false, cond, List, [], ◌∷◌, map, position, Some, None, Ok, Err, Option, Result, MatchOption, MatchResult, ◌==◌, slice_index_or}
 use Rattle.std.specs.Option.{option_eq}
 use Rattle.std.specs.Str.{bytes_eq}
 use Rattle.circuit.specs.Gate.{tables}
-use Rattle.lines.specs.Numbers.{number}
+use Rattle.lines.specs.Numbers.{number, IsNext}
 use Rattle.lines.specs.declared.Unread.{Unread}
 use Rattle.lines.specs.declared.Unread.TheVariants.{NoDigit, TooLarge}
 use Rattle.fields.specs.declared.fault.Expected.{Expected}
@@ -58,3 +58,16 @@ fields capped c i zero [] = Ok (Some [])
 fields capped c i zero (w ∷ ws) = Ok None
 fields capped c i (suc n) [] = Ok None
 fields capped c i (suc n) (w ∷ ws) = also (field capped (may_be_table c i) w) (fields capped c (i + 1) n ws)
+
+-- the answer r for the next of some words, ws, after which others are left
+abbrev pub NextField : (capped table : Bool) (ws others : List (List ℕ)) → Result (Option ℕ) Expected → Type 0
+NextField capped table ws others r =
+    MatchResult r
+    (λ x. MatchOption x (ws ≡ []) (λ n. IsNext (field capped table) ws n others))
+    (λ e. (w : List ℕ) × (ws ≡ w ∷ others) × (field capped table w ≡ Err e))
+
+-- the answer r where a line's numbers are f, and out has them if they are all that the line has
+abbrev pub FieldsRead : Result (Option (List ℕ)) Expected → (out : List ℕ) → Result Bool Expected → Type 0
+FieldsRead f out (Ok true) = f ≡ Ok (Some out)
+FieldsRead f out (Ok false) = f ≡ Ok None
+FieldsRead f out (Err e) = f ≡ Err e

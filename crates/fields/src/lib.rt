@@ -1,10 +1,10 @@
 // The fields of a line: numbers, and a table by its name; and what a text should have had where it is at fault.
 #![tactic(auto)]
 
-ghost use Rattle.std.specs.Prelude.{◌≡◌, ℕ, position};
+ghost use Rattle.std.specs.Prelude.{◌≡◌, ℕ, length, position};
 ghost use Rattle.std.specs.Str.{bytes_eq};
 ghost use Rattle.lines.specs.Words.{words};
-ghost use Rattle.fields.specs.Fields.{named, name_of, field, fields, wanted};
+ghost use Rattle.fields.specs.Fields.{named, name_of, field, fields, wanted, FieldsRead, NextField};
 
 use lines::{Unread, Words};
 
@@ -80,6 +80,47 @@ fn field(word: &[u8], capped: bool, may_be_table: bool) -> Result<u32, Expected>
     }
 }
 
+// The next word as a number, or where a table may stand by its name; None where there is no word.
+#[inline(always)]
+fn next(words: &mut Words, capped: bool, may_be_table: bool) -> Result<Option<u32>, Expected>
+    ensures { NextField capped may_be_table words.old words.new result }
+{
+    // Most words are numbers, which are read as they are passed over.
+    if let Some(number) = words.number() {
+        return Ok(Some(number));
+    }
+    match words.next() {
+        Some(word) => Ok(Some(field(word, capped, may_be_table)?)),
+        None => Ok(None),
+    }
+}
+
+/// Whether a line has just as many numbers as `out` has places, which then holds them.
+// In column `table_at`, if there is one, a table's name may stand. Where they are `capped` one of 2^32 or more is read as
+// 2^32 - 1, else it is a fault. What `out` holds else is not said.
+#[inline(always)]
+pub fn read_into(
+    line: &[u8],
+    capped: bool,
+    table_at: Option<usize>,
+    out: &mut [u32],
+) -> Result<bool, Expected>
+    ensures { FieldsRead (fields capped table_at 0 (length out.old) (words line.now)) out.new result }
+{
+    let mut words = Words::new(line);
+    for (i, number) in out.iter_mut().enumerate() {
+        let named = table_at == Some(i);
+        let Some(field) = next(&mut words, capped, named)? else {
+            return Ok(false);
+        };
+        *number = field;
+    }
+    match words.next() {
+        None => Ok(true),
+        Some(_) => Ok(false),
+    }
+}
+
 // The numbers of a line that has just N, and None where it has fewer or more. In column `table_at`, if there
 // is one, a table's name may stand. Where they are `capped` one of 2^32 or more is read as 2^32 - 1, else it is a fault.
 pub fn read<const N: usize>(
@@ -90,16 +131,9 @@ pub fn read<const N: usize>(
     ensures { result ≡ fields capped table_at 0 N (words line.now) }
 {
     let mut numbers = [0; N];
-    let mut words = Words::new(line);
-    for (i, number) in numbers.iter_mut().enumerate() {
-        let Some(word) = words.next() else {
-            return Ok(None);
-        };
-        let named = table_at == Some(i);
-        *number = field(word, capped, named)?;
-    }
-    match words.next() {
-        None => Ok(Some(numbers)),
-        Some(_) => Ok(None),
+    if read_into(line, capped, table_at, &mut numbers)? {
+        Ok(Some(numbers))
+    } else {
+        Ok(None)
     }
 }

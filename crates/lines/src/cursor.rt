@@ -1,6 +1,7 @@
 // Cursors over what a text still has.
-ghost use Rattle.std.specs.Prelude.{◌≡◌, ℕ, ◌+◌, ◌^◌, ◌<◌, List, length};
+ghost use Rattle.std.specs.Prelude.{◌≡◌, ℕ, ◌+◌, ◌^◌, ◌<◌, List, length, MatchOption};
 ghost use Rattle.std.specs.Iterator.{YieldsFirstRef, item_count, at_most};
+ghost use Rattle.lines.specs.Numbers.{number, IsNext, IsNoNumber};
 ghost use Rattle.lines.specs.Words.{words, NextLine};
 
 use std::marker::Model;
@@ -22,6 +23,16 @@ impl<'a> Words<'a> {
         ensures { result ≡ words line.now }
     {
         Words { rest: line }
+    }
+
+    /// The next word, where it is a number below 2^32; else None, and no word is passed over.
+    #[inline]
+    pub fn number(&mut self) -> Option<u32>
+        ensures { MatchOption result ((self.new ≡ self.old) × IsNoNumber self.old) (λ n. IsNext number self.old n self.new) }
+    {
+        let (number, others) = crate::first_number(self.rest)?;
+        self.rest = others;
+        Some(number)
     }
 }
 

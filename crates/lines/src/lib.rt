@@ -1,11 +1,12 @@
 // Lines, words and numbers of a text of bytes.
 #![tactic(auto)]
 
-ghost use Rattle.std.specs.Prelude.{◌≡◌, ℕ, ◌+◌, ◌<◌, ◌≤◌, ◌==◌, not, length};
+ghost use Rattle.std.specs.Prelude.{◌≡◌, ℕ, ◌+◌, ◌<◌, ◌≤◌, ◌==◌, ◌↔◌, not, length, slice_index, IsTrue, MatchOption};
+ghost use Rattle.std.specs.Int.{IsInRange};
 ghost use Rattle.std.specs.List.{prefix_len};
 ghost use Rattle.std.specs.Str.{bytes_eq};
-ghost use Rattle.lines.specs.Numbers.{number};
-ghost use Rattle.lines.specs.Words.{blank, ink, bare, FirstWord, FirstLine};
+ghost use Rattle.lines.specs.Numbers.{number, FirstDigits, FirstNumber, IsNoNumber};
+ghost use Rattle.lines.specs.Words.{blank, ink, bare, words, FirstWord, FirstLine};
 
 mod cursor;
 
@@ -114,23 +115,53 @@ pub fn word(s: &[u8]) -> Option<(&[u8], &[u8])>
     }
 }
 
+// The number that the digits at the front are, at most the limit, and how many they are.
+fn leading(s: &[u8]) -> (u64, usize)
+    ensures within { result.1 ≤ length s.now }
+    ensures value { FirstDigits s.now result.1 result.0 }
+    ensures stops { result.1 < length s.now → IsInRange 48 57 (slice_index s.now result.1) → ⊥ }
+{
+    let mut n: u64 = 0;
+    let mut i = 0;
+    while i < s.len() && s[i].is_ascii_digit() {
+        // Past the limit the rest is still looked at, since a word with another byte is no number at all.
+        n = (n * 10 + u64::from(s[i] - b'0')).min(LIMIT);
+        i += 1;
+    }
+    (n, i)
+}
+
 // The number that a word is: digits alone, where `str::parse` takes a sign too.
 pub fn value(word: &[u8]) -> Result<u32, Unread>
     ensures { result ≡ number word.now }
 {
-    if word.is_empty() {
+    let (n, digits) = leading(word);
+    if digits == 0 || digits < word.len() {
         return Err(Unread::NoDigit);
-    }
-    let mut n: u64 = 0;
-    for b in word {
-        if !b.is_ascii_digit() {
-            return Err(Unread::NoDigit);
-        }
-        // Past the limit the rest is still looked at, since a word with another byte is no number at all.
-        n = (n * 10 + u64::from(*b - b'0')).min(LIMIT);
     }
     if n == LIMIT {
         return Err(Unread::TooLarge);
     }
     Ok(n as u32)
+}
+
+// Whether no word goes on with this.
+fn is_between(s: &[u8]) -> bool
+    ensures { IsTrue result ↔ (prefix_len ink s.now ≡ 0) }
+{
+    s.is_empty() || is_blank(s[0])
+}
+
+/// The number that the first word is, and what follows it; None where it is no number below 2^32, or there is no word.
+#[inline]
+pub fn first_number(s: &[u8]) -> Option<(u32, &[u8])>
+    ensures { MatchOption result (IsNoNumber (words s.now)) (λ x. FirstNumber s.now x.0 x.1.now) }
+{
+    let (_, rest) = s.split_at(blanks(s));
+    let (n, digits) = leading(rest);
+    let (_, after) = rest.split_at(digits);
+    if digits == 0 || n == LIMIT || !is_between(after) {
+        return None;
+    }
+    Some((n as u32, after))
 }

@@ -1,41 +1,16 @@
 -- Laws of what a text of circuits means.
-use Rattle.std.proofs.Common.{◌≡◌, ℕ, ◌+◌, ◌-◌, ◌⊎◌, Bool, true, false, List, [], ◌∷◌, ◌++◌, Some, None, Ok, Err, Option, Result, sym, refl, ap, ◌∙◌, inl, inr}
-use Rattle.std.specs.Str.{bytes_eq}
+use Rattle.std.proofs.Common.{◌≡◌, ℕ, ◌+◌, ◌-◌, ◌⊎◌, Bool, true, false, List, [], ◌∷◌, Some, None, Ok, Err, Option, sym, refl, ap, ◌∙◌, inl, inr}
 use Rattle.std.proofs.lemmas.Bool.{ne_eqb}
 use Rattle.lines.specs.Words.{bare, words}
-use Rattle.fields.specs.declared.fault.Expected.{Expected}
 use Rattle.fields.specs.declared.fault.Expected.TheVariants.{Memory, End as Ending}
 use Rattle.fields.specs.declared.fault.Fault.{Fault}
 use Rattle.text.specs.declared.draft.Keyword.{Keyword}
-use Rattle.text.specs.declared.draft.Miscount.{Miscount}
-use Rattle.text.specs.declared.part.Part.{Part}
-use Rattle.text.specs.declared.draft.Progress.{Progress}
-use Rattle.text.specs.declared.draft.Progress.TheVariants.{More}
-use Rattle.text.specs.Meaning.{Drafted, meaning, noted, row, said, statement, went, inside, opened, found, first_circuit, begins_with, line_of, Outcome, Taken, Stated, IsAtFault}
+use Rattle.text.specs.Meaning.{Drafted, meaning, said, statement, went, inside, opened, found, first_circuit, begins_with, line_of, Outcome, IsAtFault}
 
 -- a line with a word
 pub at_word : {ws rest : List (List ℕ)} {w : List ℕ} (n : ℕ) (d : Drafted) (k : Option Keyword) → ws ≡ w ∷ rest → k ≡ meaning w → statement n d ws ≡ said k n d rest
 unfolding statement
 at_word {ws} {rest} n d k first k_is = rw first (ap (λ x. said x n d rest) (sym k_is))
-
--- a line of numbers that was added to its part or kept as a miscounted one
-pub added : (put : List ℕ → Option Miscount → Drafted) (xs : List ℕ) (m : Option Miscount) (p : Part) (n : ℕ) {o : Result (Progress × Drafted) Expected} {x : Result (Option (List ℕ)) Expected} → o ≡ row put xs m p n x
-    → {xs' : List ℕ} {m' : Option Miscount} → ((ns : List ℕ) × (x ≡ Ok (Some ns)) × (xs' ≡ xs ++ ns) × (m' ≡ m)) ⊎ ((x ≡ Ok None) × (xs' ≡ xs) × (m' ≡ noted m p n)) → o ≡ Ok (More, put xs' m')
-added put xs m p n is (inl (ns, x_is, xs_is, m_is)) = rw (xs_is, m_is) (is ∙ rw x_is refl)
-added put xs m p n is (inr (x_is, xs_is, m_is)) = rw (xs_is, m_is) (is ∙ rw x_is refl)
-
-pub taken : (put : List ℕ → Option Miscount → Drafted) (xs : List ℕ) (m : Option Miscount) (p : Part) (n : ℕ) {o : Result (Progress × Drafted) Expected} (x : Result (Option (List ℕ)) Expected) → o ≡ row put xs m p n x
-    → (xs' : List ℕ) (m' : Option Miscount) (r : Result Progress Expected) → Taken x p n xs xs' m m' r → Stated o (put xs' m') r
-taken put xs m p n x is xs' m' (Ok q) (q_is, how) = rw q_is (added put xs m p n is how)
-taken put xs m p n x is xs' m' (Err k) (inl memory) = inl memory
-taken put xs m p n x is xs' m' (Err k) (inr e) = inr (is ∙ rw e refl)
-
--- whether the first word is this one
-pub begun : (word : List ℕ) {ws vs : List (List ℕ)} {w : List ℕ} → ws ≡ w ∷ vs → bytes_eq w word ≡ begins_with word ws
-begun word first = rw first refl
-
-pub not_begun : (word : List ℕ) {ws : List (List ℕ)} → ws ≡ [] → false ≡ begins_with word ws
-not_begun word none = rw none refl
 
 -- a step of the cursor inside of a circuit, and outside of one
 module _ {xs ls : List (List ℕ)} {l b : List ℕ} {n k m : ℕ} (k_is : k ≡ n) (m_is : m ≡ n + 1) (first : xs ≡ l ∷ ls) (b_is : b ≡ bare l) where

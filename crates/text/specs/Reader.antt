@@ -8,6 +8,8 @@ use Rattle.lines.specs.Words.{words, bare}
 use Rattle.fields.specs.declared.fault.Expected.{Expected}
 use Rattle.fields.specs.declared.fault.Expected.TheVariants.{End as Ending}
 use Rattle.fields.specs.declared.fault.Fault.{Fault}
+use Rattle.text.specs.declared.draft.Keyword.{Keyword}
+use Rattle.text.specs.declared.draft.Keyword.TheVariants.{Circuit, Times, Register, Gate, End}
 use Rattle.text.specs.declared.draft.Progress.{Progress}
 use Rattle.text.specs.declared.draft.Progress.TheVariants.{More, Done}
 use Rattle.text.specs.declared.listing.Listing.{Listing}
@@ -55,6 +57,19 @@ placed n ws p = record {
   times = marked (codes "times") most_times n ws p.times;
 }
 
+-- line n is one more of some lines, unless there are most of them
+abbrev pub one_more : (most n : ℕ) → List ℕ → List ℕ
+one_more most n ns = cond (nat_lt (length ns) most) (ns ++ (n ∷ [])) ns
+
+-- line n is one more of those with its keyword
+abbrev pub placed_by : Option Keyword → ℕ → Placed → Placed
+placed_by (Some Gate) n p = record p { gates = one_more most_gates n p.gates }
+placed_by (Some Register) n p = record p { registers = one_more most_registers n p.registers }
+placed_by (Some Times) n p = record p { times = one_more most_times n p.times }
+placed_by (Some Circuit) n p = p
+placed_by (Some End) n p = p
+placed_by None n p = p
+
 -- a circuit that is read, with its lines
 pub record Listed : Type 0 where
   pub draft : Drafted
@@ -89,6 +104,12 @@ Stepped o n current r =
     MatchResult r
     (λ done. o ≡ Ok (record { current = current; done = option_map listed done }))
     (λ f. IsAtFault o n f × (current ≡ None))
+
+-- the code's answer r for line n inside of a circuit, where o is what the line makes of it, and x is the circuit after it
+abbrev pub WentOn : Result Step Expected → ℕ → Listed → Result Progress Fault → Type 0
+WentOn o n x (Ok More) = o ≡ Ok (record { current = Some x; done = None })
+WentOn o n x (Ok Done) = o ≡ Ok (record { current = None; done = Some x })
+WentOn o n x (Err f) = IsAtFault o n f
 
 -- line after line from line n on, up to the first circuit's end
 abbrev pub Found : Type 0

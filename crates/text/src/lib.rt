@@ -5,7 +5,7 @@ ghost use Rattle.std.specs.Prelude.{◌≡◌, ℕ, ◌*◌, ◌^◌, ◌<◌, �
 ghost use Rattle.std.specs.List.{list_all};
 ghost use Rattle.lines.specs.Words.{words, lines, bare};
 ghost use Rattle.fields.specs.Fields.{fields};
-ghost use Rattle.text.specs.Meaning.{meaning, drafted, noted, statement, inside, fresh, printable, title, opened, first_circuit, begins_with, Added, Taken, Ended, Stated, LineStated, Titled, Opened, LineOpened};
+ghost use Rattle.text.specs.Meaning.{meaning, drafted, noted, statement, said, inside, fresh, printable, title, opened, first_circuit, Added, Taken, Ended, Stated, LineStated, Titled, Opened, LineOpened};
 ghost use Rattle.text.specs.Read.{ToEnd, FirstOpened, IsRead};
 
 use fields::{Expected, Fault};
@@ -120,15 +120,17 @@ fn nothing(text: &[u8]) -> Result<(), Expected>
 }
 
 impl Draft {
-    // Takes a line, which has this number.
-    fn statement(&mut self, text: &[u8], line: usize) -> Result<Progress, Expected>
-        ensures { Stated (statement line (drafted self.old) (words text.now)) (drafted self.new) result }
+    // Takes what a line says by its keyword and its other words; it has this number.
+    fn said(
+        &mut self,
+        keyword: Option<Keyword>,
+        rest: &[u8],
+        line: usize,
+    ) -> Result<Progress, Expected>
+        ensures { Stated (said keyword line (drafted self.old) (words rest.now)) (drafted self.new) result }
     {
-        let Some((word, rest)) = lines::word(text) else {
-            return Ok(Progress::More);
-        };
         let miscount = &mut self.miscount;
-        match Keyword::of(word) {
+        match keyword {
             Some(Keyword::Gate) => take::<7>(rest, line, GATE, &mut self.gates, miscount),
             Some(Keyword::Register) => take::<3>(
                 rest,
@@ -146,8 +148,18 @@ impl Draft {
         }
     }
 
+    // Takes a line, which has this number.
+    fn statement(&mut self, text: &[u8], line: usize) -> Result<Progress, Expected>
+        ensures { Stated (statement line (drafted self.old) (words text.now)) (drafted self.new) result }
+    {
+        match lines::word(text) {
+            Some((word, rest)) => self.said(Keyword::of(word), rest, line),
+            None => Ok(Progress::More),
+        }
+    }
+
     // The same with its comment.
-    pub(crate) fn line(&mut self, text: &[u8], line: usize) -> Result<Progress, Fault>
+    fn line(&mut self, text: &[u8], line: usize) -> Result<Progress, Fault>
         ensures { LineStated (statement line (drafted self.old) (words (bare text.now))) line (drafted self.new) result }
     {
         self.statement(lines::bare(text), line)
@@ -199,7 +211,7 @@ impl Draft {
     }
 
     // The same with its comment.
-    pub(crate) fn open_line(heap: Global, text: &[u8], line: usize) -> Result<Option<Draft>, Fault>
+    fn open_line(heap: Global, text: &[u8], line: usize) -> Result<Option<Draft>, Fault>
         ensures { LineOpened (opened line (words (bare text.now))) line result }
     {
         Draft::open(heap, lines::bare(text), line).map_err(|expected| Fault { line, expected })
@@ -250,14 +262,4 @@ pub fn read<'a>(heap: Global, text: &'a [u8]) -> Result<Option<Read<'a>>, Fault>
     };
     draft.lines(&mut rest)?;
     Ok(Some(Read { draft, rest }))
-}
-
-// Whether a line begins with a word.
-pub(crate) fn begins_with(line: &[u8], word: &[u8]) -> bool
-    ensures { result ≡ begins_with word.now (words (bare line.now)) }
-{
-    let Some((first, _)) = lines::word(lines::bare(line)) else {
-        return false;
-    };
-    lines::same(first, word)
 }

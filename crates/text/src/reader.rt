@@ -2,12 +2,11 @@
 ghost use Rattle.std.specs.Prelude.{◌≡◌, ◌*◌, ◌++◌, ◌∷◌, [], codes, IfOk, OnOk, MatchResult, Ok, None, Some, vec_items, is_some};
 ghost use Rattle.std.specs.Option.{option_map};
 ghost use Rattle.lines.specs.Words.{words, bare};
-ghost use Rattle.text.specs.Meaning.{drafted, opened, statement, LineStated};
+ghost use Rattle.text.specs.Meaning.{drafted, opened, statement, IsAtFault, LineStated};
 ghost use Rattle.fields.specs.declared.fault.Expected.TheVariants.{Memory};
-ghost use Rattle.text.specs.Reader.{ByLines, PlacesAreLines, TrimmedAlike, TrimmedWhole, marked, placed, placed_of, no_places, trimmed, listed, step, went_on, begun, most_gates, most_registers, most_times, Stepped};
+ghost use Rattle.text.specs.Reader.{ByLines, PlacesAreLines, TrimmedAlike, TrimmedWhole, one_more, placed, placed_by, placed_of, no_places, trimmed, listed, step, went_on, begun, most_gates, most_registers, most_times, Stepped, WentOn};
 
-use crate::begins_with;
-use crate::draft::{Draft, Progress};
+use crate::draft::{Draft, Keyword, Progress};
 use crate::listing::{Listing, Places};
 use circuit::{MOST_GATES, MOST_REGISTERS};
 use fields::{Expected, Fault};
@@ -27,19 +26,10 @@ fn push(lines: &mut Vec<usize>, number: usize) -> Result<(), AllocError>
     Ok(lines.push(number)?)
 }
 
-// Line `number` is one more of those that begin with a word, unless there are `most` of them.
-fn mark(
-    lines: &mut Vec<usize>,
-    most: usize,
-    text: &[u8],
-    word: &[u8],
-    number: usize,
-) -> Result<(), AllocError>
-    ensures { OnOk result (vec_items lines.new ≡ marked word.now most number (words (bare text.now)) (vec_items lines.old)) }
+// One line more, unless there are `most` of them.
+fn keep(lines: &mut Vec<usize>, most: usize, number: usize) -> Result<(), AllocError>
+    ensures { OnOk result (vec_items lines.new ≡ one_more most number (vec_items lines.old)) }
 {
-    if !begins_with(text, word) {
-        return Ok(());
-    }
     if lines.len() >= most {
         return Ok(());
     }
@@ -58,19 +48,16 @@ impl Places {
         }
     }
 
-    // One line more.
-    fn add(&mut self, text: &[u8], number: usize) -> Result<(), AllocError>
-        ensures { OnOk result (placed_of self.new ≡ placed number (words (bare text.now)) (placed_of self.old)) }
+    // One line more, by its keyword.
+    fn add(&mut self, keyword: Option<Keyword>, number: usize) -> Result<(), AllocError>
+        ensures { OnOk result (placed_of self.new ≡ placed_by keyword number (placed_of self.old)) }
     {
-        mark(&mut self.gates, KEPT_GATES, text, b"gate", number)?;
-        mark(
-            &mut self.registers,
-            KEPT_REGISTERS,
-            text,
-            b"register",
-            number,
-        )?;
-        mark(&mut self.times, KEPT_TIMES, text, b"times", number)
+        match keyword {
+            Some(Keyword::Gate) => keep(&mut self.gates, KEPT_GATES, number),
+            Some(Keyword::Register) => keep(&mut self.registers, KEPT_REGISTERS, number),
+            Some(Keyword::Times) => keep(&mut self.times, KEPT_TIMES, number),
+            Some(Keyword::Circuit) | Some(Keyword::End) | None => Ok(()),
+        }
     }
 }
 
@@ -98,6 +85,32 @@ fn kept(added: Result<(), AllocError>, line: usize) -> Result<(), Fault>
     }
 }
 
+impl Listing {
+    // Takes a line without its comment, which has this number, and keeps that.
+    fn take(&mut self, text: &[u8], line: usize) -> Result<Progress, Fault>
+        ensures stated { LineStated (statement line (drafted self.old.draft) (words text.now)) line (drafted self.new.draft) result }
+        ensures places { OnOk result (placed_of self.new.places ≡ placed line (words text.now) (placed_of self.old.places)) }
+    {
+        let Some((word, rest)) = lines::word(text) else {
+            return Ok(Progress::More);
+        };
+        let keyword = Keyword::of(word);
+        kept(self.places.add(keyword, line), line)?;
+        self.draft
+            .said(keyword, rest, line)
+            .map_err(|expected| Fault { line, expected })
+    }
+
+    // Goes on, or ends, on this line.
+    fn go_on(&mut self, text: &[u8], line: usize) -> Result<Progress, Fault>
+        ensures { WentOn (step (Some (listed self.old)) line (words text.now)) line (listed self.new) result }
+    {
+        let progress = self.take(text, line)?;
+        self.draft.trim();
+        Ok(progress)
+    }
+}
+
 /// Reads circuits line by line, and keeps of each no more than the largest circuit takes.
 #[derive(Drop)]
 pub struct Reader {
@@ -119,25 +132,19 @@ impl Reader {
         self.current.is_some()
     }
 
-    // The circuit that is current goes on, or ends, on this line.
-    fn go_on(
-        &mut self,
-        mut listing: Listing,
-        text: &[u8],
-        line: usize,
-    ) -> Result<Option<Listing>, Fault>
-        requires { self.old.current ≡ None }
-        ensures { Stepped (step (Some (listed listing)) line (words (bare text.now))) line (option_map listed self.new.current) result }
+    // The beginning of a circuit on this line, if it has one.
+    fn open(heap: Global, text: &[u8], line: usize) -> Result<Option<Listing>, Fault>
+        ensures { MatchResult result
+            (λ l. begun (opened line (words text.now)) ≡ Ok (record { current = option_map listed l; done = None }))
+            (IsAtFault (begun (opened line (words text.now))) line) }
     {
-        kept(listing.places.add(text, line), line)?;
-        let progress = listing.draft.line(text, line)?;
-        listing.draft.trim();
-        match progress {
-            Progress::Done => Ok(Some(listing)),
-            Progress::More => {
-                self.current = Some(listing);
-                Ok(None)
-            }
+        let draft = Draft::open(heap, text, line).map_err(|expected| Fault { line, expected })?;
+        match draft {
+            Some(draft) => Ok(Some(Listing {
+                draft,
+                places: Places::new(heap),
+            })),
+            None => Ok(None),
         }
     }
 
@@ -145,14 +152,30 @@ impl Reader {
     pub fn line(&mut self, heap: Global, text: &[u8], line: usize) -> Result<Option<Listing>, Fault>
         ensures { Stepped (step (option_map listed self.old.current) line (words (bare text.now))) line (option_map listed self.new.current) result }
     {
-        if let Some(listing) = self.current.take() {
-            return self.go_on(listing, text, line);
+        self.bare_line(heap, lines::bare(text), line)
+    }
+
+    /// The same of a line without its comment.
+    pub fn bare_line(
+        &mut self,
+        heap: Global,
+        text: &[u8],
+        line: usize,
+    ) -> Result<Option<Listing>, Fault>
+        ensures { Stepped (step (option_map listed self.old.current) line (words text.now)) line (option_map listed self.new.current) result }
+    {
+        let Some(listing) = &mut self.current else {
+            self.current = Reader::open(heap, text, line)?;
+            return Ok(None);
+        };
+        match listing.go_on(text, line) {
+            Ok(Progress::More) => Ok(None),
+            Ok(Progress::Done) => Ok(self.current.take()),
+            Err(fault) => {
+                self.current = None;
+                Err(fault)
+            }
         }
-        if let Some(draft) = Draft::open_line(heap, text, line)? {
-            let places = Places::new(heap);
-            self.current = Some(Listing { draft, places });
-        }
-        Ok(None)
     }
 }
 
