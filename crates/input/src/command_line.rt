@@ -8,7 +8,7 @@ const LOOKED_AT: usize = 65_536;
 /// Why the arguments cannot be used.
 #[derive(Clone, Copy)]
 pub enum BadArguments {
-    /// The one at this position, counted from 1, is not UTF-8.
+    /// The one at this position, counted from 1, is not UTF-8; 0 where it is the program's name or was not found.
     NotUtf8(usize),
     /// They cannot be had.
     Unreadable(io::Error),
@@ -19,6 +19,7 @@ pub enum BadArguments {
 impl fmt::Display for BadArguments {
     fn fmt<W: fmt::Write>(&self, f: &mut fmt::Formatter<W>) -> fmt::Result {
         match self {
+            BadArguments::NotUtf8(0) => f.write_str("an argument is not UTF-8"),
             BadArguments::NotUtf8(at) => write!(f, "argument {at} is not UTF-8"),
             BadArguments::Unreadable(e) => e.fmt(f),
             BadArguments::Memory => f.write_str("memory is short"),
@@ -26,7 +27,9 @@ impl fmt::Display for BadArguments {
     }
 }
 
-// Whether the argument at a position is UTF-8; None where there is none.
+// Whether the argument at a position is UTF-8; None where there is none. Not inlined, so that what it looks at is on the
+// stack for no longer.
+#[inline(never)]
 fn is_utf8(rt: &impl Env, at: usize) -> Option<bool> {
     let mut bytes = [0; LOOKED_AT];
     match rt.arg(at, &mut bytes) {
@@ -36,7 +39,8 @@ fn is_utf8(rt: &impl Env, at: usize) -> Option<bool> {
     }
 }
 
-// The position of the first argument that is not UTF-8, counted from 1; 0 where it is the program's name, or was not found.
+// The position of the first argument that is not UTF-8, counted from 1; 0 where it is the program's name, or was not
+// found.
 fn first_bad(rt: &impl Env) -> usize {
     for at in 0..usize::MAX {
         match is_utf8(rt, at) {

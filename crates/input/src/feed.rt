@@ -23,6 +23,7 @@ impl<R: Read + Drop> Feed<R> {
     /// At the beginning of the text that the reader gives.
     pub fn new(heap: Global, reader: R) -> Self
         ensures { (pending result.text ≡ []) × (result.text.ended ≡ false)
+            × (result.text.number ≡ 0) × (result.text.whole ≡ false)
             × (number_of result.text ≡ 1) × (result.reader ≡ reader) }
     {
         Feed {
@@ -43,6 +44,8 @@ impl<R: Read + Drop> Feed<R> {
 
     /// Reads on: at least a byte, if the text goes on. While something that was read is still at hand it reads nothing.
     /// After an error it is as before, but for what the reader gave.
+    // Not inlined, so that the piece is on the stack for no longer.
+    #[inline(never)]
     pub fn more(&mut self) -> io::Result<()>
         ensures read { IfOk result (λ _. (m : List ℕ)
             × (pending self.new.text ≡ pending self.old.text ++ m)
@@ -55,7 +58,8 @@ impl<R: Read + Drop> Feed<R> {
         ensures waits { (at_hand self.old.text ≡ [] → ⊥)
             → (self.new.text ≡ self.old.text) × (self.new.reader ≡ self.old.reader) }
         ensures line { (self.new.text.line ≡ self.old.text.line)
-            × (number_of self.new.text ≡ number_of self.old.text) }
+            × (number_of self.new.text ≡ number_of self.old.text)
+            × (self.new.text.number ≡ self.old.text.number) × (self.new.text.whole ≡ self.old.text.whole) }
     {
         if self.text.has_some() {
             return Ok(());

@@ -1,14 +1,15 @@
 // The circuits of a text that is read line by line.
 use crate::Outcome;
 use crate::source::Source;
+use circuits::{Circuits, Next, Wrong};
 use cli::PassOptions;
 use fields::{Expected, Fault};
 use found::found;
-use input::{Cut, Feed, Misread, Next};
+use input::{Cut, Misread};
 use std::alloc::{AllocError, Global};
 use std::io::{ErrorKind, Read};
 use std::{fmt, io};
-use text::{Listing, Reader};
+use text::Listing;
 
 // What is said is written out once it has more bytes than this.
 const COLLECTED: usize = 60_000;
@@ -61,16 +62,20 @@ fn flush(rt: &HostRuntime, out: &mut String, most: usize) -> Result<(), Flaw> {
     }
 }
 
-// A fault of a text, with the word of its line that stands there.
-fn flaw_of(heap: Global, fault: Fault, line: &[u8]) -> Result<Flaw, AllocError> {
-    if fault.expected == Expected::Memory {
-        return Ok(Flaw::Memory);
+// What is wrong with a text, with the word that stands there where a line should have had another.
+fn flaw_of(heap: Global, wrong: Wrong, line: &[u8], number: usize) -> Result<Flaw, AllocError> {
+    match wrong {
+        Wrong::Misread(Misread::Memory) => Ok(Flaw::Memory),
+        Wrong::Misread(misread) => Ok(Flaw::Misread(number, misread)),
+        Wrong::Fault(fault) if fault.expected == Expected::Memory => Ok(Flaw::Memory),
+        Wrong::Fault(fault) => {
+            let word = match found(line, fault.expected) {
+                Some(word) => Some(format!(in heap; "{}", Cut(word))?),
+                None => None,
+            };
+            Ok(Flaw::Fault(fault, word))
+        }
     }
-    let word = match found(line, fault.expected) {
-        Some(word) => Some(format!(in heap; "{}", Cut(word))?),
-        None => None,
-    };
-    Ok(Flaw::Fault(fault, word))
 }
 
 // The circuits of a file, read line by line, and what is said of them.
@@ -78,7 +83,6 @@ fn flaw_of(heap: Global, fault: Fault, line: &[u8]) -> Result<Flaw, AllocError> 
 struct Passing<'a, 'b> {
     options: &'a PassOptions<'b>,
     file: &'a str,
-    reader: Reader,
     out: String,
     worst: Option<Outcome>,
 }
@@ -99,43 +103,26 @@ impl Passing<'_, '_> {
         flush(rt, &mut self.out, COLLECTED)
     }
 
-    // Takes a line, and answers for the circuit that ends on it, if one does.
-    fn line(&mut self, rt: &HostRuntime, text: &[u8], number: usize) -> Result<(), Flaw> {
-        match self.reader.line(rt.alloc(), text, number) {
-            Ok(Some(listing)) => self.tell(rt, &listing),
-            Ok(None) => Ok(()),
-            Err(fault) => Err(flaw_of(rt.alloc(), fault, text)?),
-        }
-    }
-
-    // At the text's end, before this line.
-    fn end(&self, line: usize) -> Result<Outcome, Flaw> {
-        if self.reader.is_inside() {
-            let expected = Expected::End;
-            return Err(Flaw::Fault(Fault { line, expected }, None));
-        }
-        self.worst.ok_or(Flaw::NoCircuit)
-    }
-
     // The circuits of a text, one after another. What was said is not held back while more is waited for.
-    fn lines<R: Read + Drop>(
+    fn all<R: Read + Drop>(
         &mut self,
         rt: &HostRuntime,
-        feed: &mut Feed<R>,
+        circuits: &mut Circuits<R>,
     ) -> Result<Outcome, Flaw> {
         for _ in 0..u64::MAX {
-            match feed.next() {
-                Ok(Next::Line) => self.line(rt, feed.line(), feed.number())?,
+            match circuits.next(rt.alloc()) {
+                Ok(Next::Circuit(listing)) => self.tell(rt, &listing)?,
                 Ok(Next::Nothing) => {
                     flush(rt, &mut self.out, 0)?;
-                    feed.more().map_err(Flaw::Unreadable)?;
+                    circuits.more().map_err(Flaw::Unreadable)?;
                 }
                 Ok(Next::End) => break,
-                Err(Misread::Memory) => return Err(Flaw::Memory),
-                Err(misread) => return Err(Flaw::Misread(feed.number(), misread)),
+                Err(wrong) => {
+                    return Err(flaw_of(rt.alloc(), wrong, circuits.line(), circuits.number())?);
+                }
             }
         }
-        self.end(feed.number())
+        self.worst.ok_or(Flaw::NoCircuit)
     }
 }
 
@@ -146,15 +133,14 @@ pub(crate) fn pass_reader<R: Read + Drop>(
     path: &str,
     reader: R,
 ) -> Result<Outcome, Flaw> {
-    let mut feed = Feed::new(rt.alloc(), reader);
+    let mut circuits = Circuits::new(rt.alloc(), reader);
     let mut passing = Passing {
         options,
         file: path,
-        reader: Reader::new(),
         out: String::new(rt.alloc()),
         worst: None,
     };
-    let outcome = passing.lines(rt, &mut feed);
+    let outcome = passing.all(rt, &mut circuits);
     flush(rt, &mut passing.out, 0)?;
     outcome
 }
