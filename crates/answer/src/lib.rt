@@ -11,7 +11,7 @@ ghost use Rattle.answer.specs.Line.{LineSays, PeriodLine, RatioLine};
 ghost use Rattle.text.specs.Reader.{listed, placed_of};
 ghost use Rattle.answer.specs.Said.{machine_of, HasNumbers, PassedIf, PeriodIf, RefusedFirst, Taken, line_about, TurnedAwayIf};
 
-use circuit::{Circuit, Numbers};
+use circuit::Circuit;
 use detail::Detail;
 use signoff::{LONGEST_PATH, Verdict};
 use slack::Smallest;
@@ -48,15 +48,7 @@ fn taken(draft: &Draft) -> Circuit<'_>
     ensures { (result.gates.now ≡ draft.now.gates.items) × (result.registers.now ≡ draft.now.registers.items)
         × (result.times.now ≡ draft.now.times.items) }
 {
-    let numbers = Numbers {
-        gates: &draft.gates,
-        registers: &draft.registers,
-        times: &draft.times,
-    };
-    let Ok(circuit) = Circuit::try_from(numbers) else {
-        unreachable!()
-    };
-    circuit
+    Circuit::new(&draft.gates, &draft.registers, &draft.times)
 }
 
 // The line that a detail is about: that of a gate, a register or the times, else the one where the circuit began.

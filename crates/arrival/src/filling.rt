@@ -15,6 +15,9 @@ pub const LARGEST_SOURCE: u64 = 0x8000_0000_0000_0000;
 // As many signals as a circuit can have: room for the times of any.
 pub const MOST_SIGNALS: usize = MOST_REGISTERS + MOST_GATES;
 
+// So few signals have most circuits that are tried by themselves: room for their times alone is cleared for them.
+pub const FEW_SIGNALS: usize = 512;
+
 // The times of all gates, over the times of `n` sources with which both slices begin. Each turn loads one gate.
 fn fill_gates(circuit: Circuit<'_>, n: usize, latest: &mut [u64], earliest: &mut [u64])
     requires sources { registers_of circuit ≤ n }

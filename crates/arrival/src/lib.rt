@@ -10,7 +10,7 @@ mod timed;
 mod times;
 
 pub use edge::Edge;
-pub use filling::{LARGEST_SOURCE, MOST_SIGNALS, fill, fill_from_registers};
+pub use filling::{FEW_SIGNALS, LARGEST_SOURCE, MOST_SIGNALS, fill, fill_from_registers};
 pub use timed::Arrivals;
 pub use times::Times;
 

@@ -56,7 +56,9 @@ fn put_found(
     put_sum(out, "hold", hold, rooms.1)
 }
 
-// Puts what is found of one register of a circuit behind `out`; answers whether it meets its times.
+// Puts what is found of one register of a circuit behind `out`; answers whether it meets its times. Not inlined, so that
+// room for its paths is on the stack only where it is asked for.
+#[inline(never)]
 pub(crate) fn put_register(
     out: &mut String,
     name: &[u8],

@@ -68,7 +68,9 @@ impl<'a> Source<'a> {
         }
     }
 
-    // The line on it, and paths where it has some.
+    // The line on it, and paths where it has some. Not inlined, so that room for them is on the stack only where they are
+    // asked for.
+    #[inline(never)]
     fn put_paths(self, line: &str, out: &mut String) -> fmt::Result {
         out.push_str(line)?;
         match answer::circuit(self.listing) {

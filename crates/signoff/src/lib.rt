@@ -1,13 +1,13 @@
 // Passing a clocked circuit, or naming what stands in its way.
 #![tactic(auto)]
 
-ghost use Rattle.std.specs.Prelude.{◌≡◌, ◌<◌, ◌≤◌, ◌↔◌, IsTrue};
-ghost use Rattle.circuit.specs.Checked.{of, registers_of};
+ghost use Rattle.std.specs.Prelude.{◌≡◌, ◌*◌, ◌^◌, ◌<◌, ◌≤◌, ◌↔◌, IsTrue};
+ghost use Rattle.circuit.specs.Checked.{of, registers_of, signals_of};
 ghost use Rattle.circuit.specs.Lent.{takes};
 ghost use Rattle.circuit.specs.Refused.{AllOrFirst};
 ghost use Rattle.signoff.specs.Verdict.{SumsOf, SumsKept, Named, Judged, Says, Answers};
 
-use arrival::{Arrivals, Edge, MOST_SIGNALS, fill_from_registers};
+use arrival::{Arrivals, Edge, FEW_SIGNALS, MOST_SIGNALS, fill_from_registers};
 use circuit::{Circuit, MOST_GATES, Numbers, Refusal, Register};
 
 mod verdict;
@@ -118,15 +118,29 @@ fn judge(a: Arrivals<'_, '_>, room: &mut [u32]) -> Result<Verdict, Refusal>
     Ok(Verdict::Passed)
 }
 
-// The same of a circuit whose arrival times are not known yet.
+// The same of a circuit whose arrival times are not known yet, with room for those of `N` signals, which is cleared. It is
+// not inlined, so that where `N` is small little of the stack is used.
+#[inline(never)]
+fn judge_within<const N: usize>(circuit: Circuit<'_>, room: &mut [u32]) -> Result<Verdict, Refusal>
+    requires few { signals_of circuit ≤ N }
+    requires small { N * 8 < 2 ^ 63 }
+    ensures { of circuit.entry Judged room.old room.new result }
+{
+    let mut latest = [0; N];
+    let mut earliest = [0; N];
+    fill_from_registers(circuit, &mut latest, &mut earliest)?;
+    judge(Arrivals::new(circuit, &latest, &earliest), room)
+}
+
+// The same with as much room as the circuit may need, and no heap: passing cannot want memory.
 fn judge_circuit(circuit: Circuit<'_>, room: &mut [u32]) -> Result<Verdict, Refusal>
     ensures { of circuit.entry Judged room.old room.new result }
 {
-    // As long as any circuit needs, and no heap: passing cannot want memory.
-    let mut latest = [0; MOST_SIGNALS];
-    let mut earliest = [0; MOST_SIGNALS];
-    fill_from_registers(circuit, &mut latest, &mut earliest)?;
-    judge(Arrivals::new(circuit, &latest, &earliest), room)
+    if circuit.signal_count() <= FEW_SIGNALS {
+        judge_within::<FEW_SIGNALS>(circuit, room)
+    } else {
+        judge_within::<MOST_SIGNALS>(circuit, room)
+    }
 }
 
 // Passes a clocked circuit, or names the first register whose input comes too late, else the first whose input changes
@@ -151,7 +165,7 @@ pub fn pass<'a>(
 pub fn verdict_on(circuit: Circuit<'_>, room: &mut [u32; LONGEST_PATH]) -> Verdict
     ensures { of circuit.entry Says room.old room.new result }
 {
-    let Ok(verdict) = judge_circuit(circuit, room) else {
+    let Ok(verdict) = pass(circuit.gates, circuit.registers, circuit.times, room) else {
         unreachable!()
     };
     verdict

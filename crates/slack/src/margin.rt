@@ -1,6 +1,6 @@
 // The margins of a circuit's registers.
 ghost use Rattle.std.specs.Prelude.{◌≡◌, ◌*◌, ◌^◌, ◌<◌, ◌≤◌, length, MatchOption, MatchResult, pos, ◌+ℤ◌, ◌<ℤ◌, ◌≤ℤ◌};
-ghost use Rattle.circuit.specs.Checked.{of, registers_of};
+ghost use Rattle.circuit.specs.Checked.{of, registers_of, signals_of};
 ghost use Rattle.circuit.specs.Lent.{takes};
 ghost use Rattle.circuit.specs.declared.refusal.Refusal.TheVariants.{NoRoom};
 ghost use Rattle.arrival.specs.Lent.{time_of};
@@ -10,7 +10,7 @@ ghost use Rattle.slack.specs.Required.{required_of, IsEnds};
 
 use crate::endpoint::Ends;
 use crate::worst::{Smallest, Worst};
-use arrival::{Arrivals, Edge, MOST_SIGNALS, fill_from_registers};
+use arrival::{Arrivals, Edge, FEW_SIGNALS, MOST_SIGNALS, fill_from_registers};
 use circuit::{Circuit, MOST_REGISTERS, Refusal, Register};
 
 // As many margins as a circuit can have.
@@ -117,6 +117,26 @@ fn fill(a: Arrivals<'_, '_>, room: &mut [i64])
     }
 }
 
+// Writes both margins of every register and answers the smallest of each kind, with room for the times of `N` signals,
+// which is cleared. It is not inlined, so that where `N` is small little of the stack is used.
+#[inline(never)]
+fn margins_within<const N: usize>(circuit: Circuit<'_>, room: &mut [i64]) -> Smallest
+    requires few { signals_of circuit ≤ N }
+    requires small { N * 8 < 2 ^ 63 }
+    requires room { 2 * registers_of circuit ≤ length room.old }
+    ensures margins { MarginsIn (of circuit.entry machine_in) (registers_of circuit.entry) room.old room.new }
+    ensures smallest { AreSmallest (of circuit.entry machine_in) result }
+{
+    let mut latest = [0; N];
+    let mut earliest = [0; N];
+    let Ok(()) = fill_from_registers(circuit, &mut latest, &mut earliest) else {
+        unreachable!()
+    };
+    let a = Arrivals::new(circuit, &latest, &earliest);
+    fill(a, room);
+    smallest_of(a)
+}
+
 // Writes both margins of every register, the setup margin of register `r` at `2 * r` of the lent room and its hold margin
 // behind it, and answers the smallest of each kind. Room for fewer is refused, and room for more keeps the rest of what it
 // had.
@@ -131,16 +151,17 @@ pub fn margins(circuit: Circuit<'_>, room: &mut [i64]) -> Result<Smallest, Refus
     if room.len() < needed {
         return Err(Refusal::NoRoom(needed));
     }
-    // As long as any circuit needs, and no heap.
-    let mut latest = [0; MOST_SIGNALS];
-    let mut earliest = [0; MOST_SIGNALS];
-    fill_from_registers(circuit, &mut latest, &mut earliest)?;
-    let a = Arrivals::new(circuit, &latest, &earliest);
-    fill(a, room);
-    Ok(smallest_of(a))
+    // As much room for times as the circuit may need, and no heap.
+    let smallest = if circuit.signal_count() <= FEW_SIGNALS {
+        margins_within::<FEW_SIGNALS>(circuit, room)
+    } else {
+        margins_within::<MOST_SIGNALS>(circuit, room)
+    };
+    Ok(smallest)
 }
 
-// The smallest margin of each kind.
+// The smallest margin of each kind. Room for all of them is on the stack for no longer.
+#[inline(never)]
 pub fn smallest(circuit: Circuit<'_>) -> Smallest
     ensures { AreSmallest (of circuit.entry machine_in) result }
 {

@@ -1,4 +1,0 @@
-use Rattle.signoff.proofs.judge_circuit.Goals as goal
-
-pub returns : goal.returns
-returns c = let same = c.new.ensures.circuit in rw (same.0, same.1, same.2) at c.judge.ensures
